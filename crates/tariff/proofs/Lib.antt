@@ -1,0 +1,5 @@
+mod FareTotals
+mod Journeys
+mod MinuteTotals
+pub mod Steps
+mod WaitTotals

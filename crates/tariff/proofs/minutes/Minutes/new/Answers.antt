@@ -1,0 +1,5 @@
+use Rattle.tariff.proofs.MinuteTotals.{made-fair, refused}
+use Rattle.tariff.proofs.minutes.Minutes.new.Needs as need
+
+pub returns : need.returns
+returns c = made-fair (c .args .penalty) _

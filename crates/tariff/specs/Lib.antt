@@ -1,0 +1,11 @@
+pub mod ByFares
+pub mod ByMinutes
+pub mod ByWaits
+pub mod Counting
+pub mod Journeys
+pub mod Kinds
+pub mod Laws
+pub mod Limits
+pub mod Meaning
+pub mod Refusals
+pub mod Steps
