@@ -1,0 +1,4 @@
+mod Listings
+mod Months
+mod Noting
+mod Scanned
