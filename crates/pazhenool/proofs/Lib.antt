@@ -1,0 +1,4 @@
+mod Collected
+mod Cuts
+mod Digits
+mod Fortnights

@@ -1,0 +1,10 @@
+use Rattle.pazhenool.proofs.Cuts.{front-is, behind-is}
+use Rattle.pazhenool.proofs.cut.cut_at.Needs as need
+
+pub returns : need.returns
+returns c =
+    let counted = c .count-ahead-ahead .ensures in
+    record {
+      front = front-is (c .args .stop) (c .args .bytes .now) (c .count-ahead-ahead .result) (c .min-next .result) (counted .value) (counted .within);
+      behind = behind-is (c .args .stop) (c .args .bytes .now) (c .count-ahead-ahead .result) (c .min-next .result) (counted .value) (counted .within) (c .min-next .ensures);
+    }

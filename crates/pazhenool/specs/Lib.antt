@@ -1,0 +1,5 @@
+pub mod Cuts
+pub mod Input
+pub mod Lines
+pub mod Numbers
+pub mod Running
