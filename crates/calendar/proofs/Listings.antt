@@ -1,11 +1,10 @@
 -- The listed exceptions: where a pair stands, its word, and what a change or one more makes of the list.
 use mathlib.Core.Path.{_≡_, refl, sym, ap, _∙_}
-use mathlib.Core.Bool.{Bool, true, false, cond, _&&_}
+use mathlib.Core.Bool.{Bool, true, false, cond}
 use mathlib.Core.List.{List, [], _∷_, _++_}
 use Prim.Native.Nat.{ℕ, suc, _+_, _<_, _≤_, min}
 use native.Mathlib.Numerals.{add-one}
 use native.Mathlib.Omega.{arith}
-use lib.Dec.{eqb}
 use lib.ListN.{length, getD, drop, take, set}
 use lib.Seq.{take-set-lt}
 use Rattle.std.proofs.shelf.Lists.{length-take, length-take-le, getD-take}
@@ -13,7 +12,6 @@ use Rattle.calendar.specs.Words.{is-for, marked, entries, place, word-of, with
 use Rattle.calendar.specs.declared.exceptions.Exception.{Exception}
 use Rattle.calendar.specs.declared.exceptions.Listed.{Listed}
 use Rattle.calendar.proofs.Scanned.{first-here, first-past, first-end, first-le}
-use Rattle.std.specs.declared.option.Option.{Option}
 use Rattle.std.specs.declared.option.Option.the-variants.{Some, None}
 
 module _ (l : Listed) (whole : length (l .records) ≡ 64) (few : l .count ≤ 64) where

@@ -1,6 +1,6 @@
 -- Whole months and whole years go by, day by day.
 use mathlib.Core.Path.{_≡_, refl, sym, ap, _∙_}
-use mathlib.Core.Bool.{Bool, true, false, cond}
+use mathlib.Core.Bool.{true, false, cond}
 use Prim.Native.Nat.{ℕ, zero, suc, _+_, _-_, _<_, _≤_}
 use mathlib.Core.Logic.{inl, inr}
 use native.Mathlib.Nat.{zero-add, suc-add}

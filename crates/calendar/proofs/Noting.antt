@@ -14,8 +14,7 @@ use Rattle.calendar.specs.Words.{is-for, marked, word-of, with-word}
 use Rattle.calendar.specs.declared.exceptions.Exception.{Exception}
 use Rattle.calendar.specs.declared.exceptions.Exceptions.{Exceptions}
 use Rattle.std.specs.Options.{valueOr}
-use Rattle.std.specs.declared.option.Option.{Option}
-use Rattle.std.specs.declared.option.Option.the-variants.{Some, None}
+use Rattle.std.specs.declared.option.Option.the-variants.{Some}
 
 twice : {X : Type 0} (q : Bool) (x y z : X) → cond q x z ≡ cond q x (cond q y z)
 twice true x y z = refl

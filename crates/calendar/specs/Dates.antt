@@ -8,13 +8,15 @@ use Rattle.calendar.specs.declared.date.Date.{Date}
 abbrev pub is-leap : ℕ → Bool
 is-leap y = eqb (y % 4) 0 && (not (eqb (y % 100) 0) || eqb (y % 400) 0)
 
+-- how many days the year has
 abbrev pub year-length : ℕ → ℕ
 year-length y = cond (is-leap y) 366 365
 
--- April, June, September and November have 30 days
+-- how many days the month has: April, June, September and November have 30
 abbrev pub month-length : ℕ → ℕ → ℕ
 month-length y m = cond (eqb m 2) (cond (is-leap y) 29 28) (cond (eqb m 4 || (eqb m 6 || (eqb m 9 || eqb m 11))) 30 31)
 
+-- a date by its year, month and day of the month
 abbrev pub on : ℕ → ℕ → ℕ → Date
 on y m d = record { year = y; month = m; day = d }
 
@@ -29,8 +31,10 @@ abbrev pub after : ℕ → Date → Date
 after zero t = t
 after (suc n) t = after n (tomorrow t)
 
+-- 1 January
 abbrev pub new-year : ℕ → Date
 new-year y = on y 1 1
 
+-- the date of a day, day 0 being 1 January 2000
 abbrev pub date-of : ℕ → Date
 date-of day = after day (new-year 2000)

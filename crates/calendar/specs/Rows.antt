@@ -1,23 +1,22 @@
 -- Rows of dates: which pairs they cover, and whether one goes backwards.
 use mathlib.Core.Bool.{Bool, _&&_}
 use mathlib.Core.List.{List}
-use Prim.Native.Nat.{ℕ}
 use lib.Dec.{eqb, leb, ltb}
 use Rattle.calendar.specs.Pairs.{Pairs}
 use Rattle.calendar.specs.Scans.{some}
-use Rattle.calendar.specs.declared.dated.Dates.{Dates}
+use Rattle.calendar.specs.declared.dated.DateRow.{DateRow}
 
 -- the pair has the row's code and a day from its first to its last
-abbrev pub covers : Dates → Pairs
+abbrev pub covers : DateRow → Pairs
 covers row code day = eqb (row .code) code && leb (row .first) day && leb day (row .last)
 
 -- the pairs that some row covers
-abbrev pub covered : List Dates → Pairs
+abbrev pub covered : List DateRow → Pairs
 covered rows code day = some (λ row. covers row code day) rows
 
 -- the first day is after the last
-abbrev pub backwards : Dates → Bool
+abbrev pub backwards : DateRow → Bool
 backwards row = ltb (row .last) (row .first)
 
-abbrev pub some-backwards : List Dates → Bool
+abbrev pub some-backwards : List DateRow → Bool
 some-backwards rows = some backwards rows

@@ -8,15 +8,15 @@ use Rattle.calendar.specs.Pairs.{Pairs}
 use Rattle.calendar.specs.declared.weekday.Weekday.{Weekday}
 use Rattle.calendar.specs.declared.weekday.Weekday.the-variants.{Monday, Tuesday, Wednesday, Thursday, Friday, Saturday, Sunday}
 
--- a day's place in its week, Monday being 0; day 0 is a Saturday
-abbrev pub place : ℕ → ℕ
-place day = (day + 5) % 7
+-- the number of a day's weekday, Monday being 0; day 0 is a Saturday
+abbrev pub weekday-number : ℕ → ℕ
+weekday-number day = (day + 5) % 7
 
 abbrev pub week : List Weekday
 week = Monday ∷ Tuesday ∷ Wednesday ∷ Thursday ∷ Friday ∷ Saturday ∷ Sunday ∷ []
 
 abbrev pub weekday-of : ℕ → Weekday
-weekday-of day = getD week (place day) Monday
+weekday-of day = getD week (weekday-number day) Monday
 
 -- whether bit k of n is set
 abbrev pub bit : ℕ → ℕ → Bool
@@ -24,4 +24,4 @@ bit n k = eqb (n / 2 ^ k % 2) 1
 
 -- a code runs on the weekdays whose bits it has
 abbrev pub weekly : Pairs
-weekly code day = bit code (place day)
+weekly code day = bit code (weekday-number day)

@@ -15,6 +15,7 @@ use Rattle.std.specs.declared.option.Option.the-variants.{Some, None}
 use Rattle.std.specs.declared.result.Result.{Result}
 use Rattle.std.specs.declared.result.Result.the-variants.{Ok, Err}
 
+-- whether the exception is for the pair
 abbrev pub is-for : Exception → ℕ → ℕ → Bool
 is-for e code day = eqb (e .code) code && eqb (e .day) day
 
@@ -30,6 +31,7 @@ entries l = take (l .count) (l .records)
 abbrev pub place : List Exception → ℕ → ℕ → ℕ
 place es code day = first (λ e. is-for e code day) es
 
+-- the word that is listed for the pair
 abbrev pub word-of : List Exception → ℕ → ℕ → Option Bool
 word-of [] code day = None
 word-of (e ∷ es) code day = cond (is-for e code day) (Some (e .runs)) (word-of es code day)

@@ -9,13 +9,13 @@ use crate::refusal::Refusal;
 
 // The code runs on each day from the first to the last.
 #[derive(Clone, Copy)]
-pub struct Dates {
+pub struct DateRow {
     pub code: u8,
     pub first: u16,
     pub last: u16,
 }
 
-impl Dates {
+impl DateRow {
     // Whether the code runs on the day by this row.
     pub fn covers(&self, code: u8, day: u16) -> bool
         ensures { λ r. ⌜ r ≡ covers (now (self .entry)) code day ⌝ }
@@ -26,12 +26,12 @@ impl Dates {
 
 #[derive(Clone, Copy)]
 pub struct Dated<'a> {
-    rows: &'a [Dates],
+    rows: &'a [DateRow],
 }
 
 impl<'a> Dated<'a> {
     // The calendar of these rows; refused under 24 where one's first day is after its last.
-    pub fn new(rows: &'a [Dates]) -> Result<Dated<'a>, Refusal>
+    pub fn new(rows: &'a [DateRow]) -> Result<Dated<'a>, Refusal>
         ensures { λ r. ⌜ Cases r (λ d. (some-backwards (now (rows .entry)) ≡ false) × (now (d .rows) ≡ now (rows .entry))) (λ e. (some-backwards (now (rows .entry)) ≡ true) × (e ≡ Refusal.Backwards)) ⌝ }
     {
         for row in rows {

@@ -1,8 +1,9 @@
 // On which days trains run: a calendar answers for a train's calendar code and a day.
 //
 //     let mut calendar = Exceptions::new(Weekly);
-//     calendar.note(31, 100, false)?;           // but not on day 100
-//     calendar.runs_on(31, 99)                  // code 31: Monday to Friday
+//     calendar.runs_on(31, 101)                 // yes: code 31 is Monday to Friday, and day 101 is a Tuesday
+//     calendar.note(31, 101, false)?;
+//     calendar.runs_on(31, 101)                 // no: it is an exception now
 //
 // A day is a number from 0 to 65,535; day 0 is Saturday, 1 January 2000.
 ghost use mathlib.Core.Path.{_≡_};

@@ -1,10 +1,11 @@
+// Calendars and dates on worked examples.
 use crate::Calendar;
 use crate::date::Date;
 use crate::date::DateDebug;
 use crate::date::DatePartialEq;
+use crate::dated::DateRow;
 use crate::dated::Dated;
 use crate::dated::DatedCalendar;
-use crate::dated::Dates;
 use crate::exceptions::Exceptions;
 use crate::exceptions::layer::ExceptionsCalendar;
 use crate::refusal::Refusal;
@@ -60,12 +61,12 @@ fn a_weekly_code_runs_on_the_weekdays_of_its_bits() -> Result<(), Fail> {
 #[test]
 fn a_dated_row_covers_its_days_and_no_other() -> Result<(), Fail> {
     let rows = [
-        Dates {
+        DateRow {
             code: 1,
             first: 3,
             last: 5,
         },
-        Dates {
+        DateRow {
             code: 2,
             first: 7,
             last: 7,
@@ -92,7 +93,7 @@ fn a_dated_row_covers_its_days_and_no_other() -> Result<(), Fail> {
 
 #[test]
 fn a_backward_row_is_refused_under_24() -> Result<(), Fail> {
-    let rows = [Dates {
+    let rows = [DateRow {
         code: 1,
         first: 5,
         last: 4,

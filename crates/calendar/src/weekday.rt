@@ -1,6 +1,6 @@
 // The days of the week.
 ghost use mathlib.Core.Path.{_≡_};
-ghost use Rattle.calendar.specs.Weekdays.{weekday-of, place};
+ghost use Rattle.calendar.specs.Weekdays.{weekday-of, weekday-number};
 use std::fmt;
 
 #[derive(Clone, Copy, PartialEq, Eq, Debug)]
@@ -14,9 +14,9 @@ pub enum Weekday {
     Sunday,
 }
 
-// The day's place in its week, Monday being 0.
-pub(crate) fn place(day: u16) -> u8
-    ensures { λ r. ⌜ r ≡ place day ⌝ }
+// The number of the day's weekday, Monday being 0.
+pub(crate) fn weekday_number(day: u16) -> u8
+    ensures { λ r. ⌜ r ≡ weekday-number day ⌝ }
 {
     ((day as u32 + 5) % 7) as u8
 }
@@ -26,7 +26,7 @@ impl Weekday {
     pub fn of(day: u16) -> Weekday
         ensures { λ r. ⌜ r ≡ weekday-of day ⌝ }
     {
-        match place(day) {
+        match weekday_number(day) {
             0 => Weekday::Monday,
             1 => Weekday::Tuesday,
             2 => Weekday::Wednesday,

@@ -10,6 +10,6 @@ pub impl Calendar for Weekly as WeeklyCalendar {
     ghost runs = { λ _. weekly };
 
     fn runs_on(&self, code: u8, day: u16) -> bool {
-        (code >> weekday::place(day)) & 1 == 1
+        (code >> weekday::weekday_number(day)) & 1 == 1
     }
 }

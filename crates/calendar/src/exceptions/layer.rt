@@ -17,6 +17,7 @@ impl<C: Calendar> Exceptions<C> {
     pub fn new(below: C) -> Exceptions<C>
         ensures none_listed { λ r. ⌜ entries (r .listed) ≡ [] ⌝ }
         ensures below { λ r. ⌜ r .below ≡ below ⌝ }
+        ensures pairs { λ r. ⌜ ((c d : ℕ) → layered (C·Calendar .runs) r c d ≡ C·Calendar .runs below c d) ⌝ }
     {
         let blank = Exception {
             code: 0,

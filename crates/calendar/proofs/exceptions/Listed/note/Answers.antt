@@ -3,7 +3,7 @@ use Prim.Native.Nat.{_<_}
 use native.Mathlib.Omega.{arith}
 use lib.Dec.{ltb}
 use lib.ListN.{length}
-use mathlib.Core.Bool.{true, false, cond, _||_}
+use mathlib.Core.Bool.{true, cond, _||_}
 use Rattle.std.proofs.shelf.Tests.{cond-true, both-ways, or-left}
 use Rattle.calendar.specs.Limits.{most-exceptions}
 use Rattle.calendar.specs.Words.{entries, is-for, place, has-room, room-answer, with-word}

@@ -6,4 +6,4 @@ use Rattle.calendar.specs.Weekdays.{bit}
 use Rattle.calendar.proofs.weekly.WeeklyCalendar.runs_on.Needs as need
 
 pub returns : need.returns
-returns c = ap (λ n. eqb n 1) (and-mask (c .args .code / 2 ^ c .place .result) 1) ∙ ap (bit (c .args .code)) (c .place .ensures)
+returns c = ap (λ n. eqb n 1) (and-mask (c .args .code / 2 ^ c .weekday-number .result) 1) ∙ ap (bit (c .args .code)) (c .weekday-number .ensures)
