@@ -1,5 +1,5 @@
 mod FareTotals
 mod Journeys
 mod MinuteTotals
-pub mod Steps
+mod Steps
 mod WaitTotals

@@ -21,7 +21,6 @@ use Rattle.tariff.specs.Kinds.{changes}
 use Rattle.tariff.specs.Limits.{most-steps, most-per-step, most-penalty}
 use Rattle.tariff.specs.declared.minutes.Minutes.{Minutes}
 use Rattle.tariff.specs.declared.minutes.MinuteTotal.{MinuteTotal}
-use Rattle.tariff.specs.declared.refusal.Refusal.{Refusal}
 use Rattle.tariff.specs.declared.refusal.Refusal.the-variants.{HighPenalty}
 use Rattle.tariff.specs.declared.step.Step.{Step}
 

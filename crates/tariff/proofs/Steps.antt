@@ -1,5 +1,5 @@
 -- A step whose numbers are in range is the step made of them.
-use mathlib.Core.Path.{_≡_, refl, sym}
+use mathlib.Core.Path.{_≡_, refl}
 use mathlib.Core.HLevel.{isProp→PathP}
 use Prim.Native.Nat.{_≤_, min}
 use native.Mathlib.Bridge.{le-prop}

@@ -1,6 +1,6 @@
 -- The tariff by waits: the longest wait at a start or a change.
 use mathlib.Core.Bool.{true, false, cond}
-use Prim.Native.Nat.{_+_, _≤_, max}
+use Prim.Native.Nat.{_≤_, max}
 use native.Mathlib.Omega.{arith}
 use lib.Dec.{leb}
 use Rattle.tariff.specs.Counting.{taken, next, next-few, taken-bounded}

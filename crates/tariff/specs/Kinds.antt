@@ -1,6 +1,5 @@
 -- What the kind of a step says.
 use mathlib.Core.Bool.{Bool, true, false}
-use Rattle.tariff.specs.declared.step.Step.{Step}
 use Rattle.tariff.specs.declared.step.Kind.{Kind}
 use Rattle.tariff.specs.declared.step.Kind.the-variants.{Start, Ride, Stand, Change}
 

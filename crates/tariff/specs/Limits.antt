@@ -5,7 +5,7 @@ use Prim.Native.Nat.{ℕ}
 abbrev pub most-steps : ℕ
 most-steps = 8640
 
--- what a step may add to a sum of a delivered tariff
+-- what a step may add to a sum of one of the three tariffs
 abbrev pub most-per-step : ℕ
 most-per-step = 70000
 

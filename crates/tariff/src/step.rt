@@ -1,6 +1,8 @@
 // One step of a journey, as a tariff counts it.
 ghost use Prim.Native.Nat.{_≤_};
 
+pub mod made;
+
 #[derive(Clone, Copy, PartialEq, Eq, Debug)]
 pub enum Kind {
     // waiting for the first train

@@ -1,3 +1,4 @@
+// Totals of journeys that were worked out by hand.
 use crate::MOST_STEPS;
 use crate::Tariff;
 use crate::fares::Fares;
@@ -13,28 +14,20 @@ use crate::waits::Waits;
 use crate::waits::pricing::WaitsTariff;
 use std::test::*;
 
-fn step(kind: Kind, minutes: u16, fare: u16) -> Step {
-    Step {
-        kind,
-        minutes,
-        fare,
-    }
-}
-
 // A journey of ten steps: 10 + 30 + 5 + 35 + 12 + 20 + 0 + 40 + 3 + 25 minutes,
 // 300 + 200 + 100 + 250 + 65535 cents, changes of 12 and 0 minutes.
 fn travelled() -> [Step; 10] {
     [
-        step(Kind::Start, 10, 0),
-        step(Kind::Ride, 30, 300),
-        step(Kind::Stand, 5, 0),
-        step(Kind::Ride, 35, 200),
-        step(Kind::Change, 12, 0),
-        step(Kind::Ride, 20, 100),
-        step(Kind::Change, 0, 0),
-        step(Kind::Ride, 40, 250),
-        step(Kind::Stand, 3, 0),
-        step(Kind::Ride, 25, 65535),
+        Step::new(Kind::Start, 10, 0),
+        Step::new(Kind::Ride, 30, 300),
+        Step::new(Kind::Stand, 5, 0),
+        Step::new(Kind::Ride, 35, 200),
+        Step::new(Kind::Change, 12, 0),
+        Step::new(Kind::Ride, 20, 100),
+        Step::new(Kind::Change, 0, 0),
+        Step::new(Kind::Ride, 40, 250),
+        Step::new(Kind::Stand, 3, 0),
+        Step::new(Kind::Ride, 25, 65535),
     ]
 }
 
@@ -101,9 +94,9 @@ fn penalties_above_a_day_are_refused_under_22() -> Result<(), Fail> {
 
 #[test]
 fn minutes_decide_at_equal_fares() -> Result<(), Fail> {
-    let fast = Fares.total_of(&[step(Kind::Ride, 8, 2)]);
-    let slow = Fares.total_of(&[step(Kind::Ride, 9, 2)]);
-    let dear = Fares.total_of(&[step(Kind::Ride, 1, 3)]);
+    let fast = Fares.total_of(&[Step::new(Kind::Ride, 8, 2)]);
+    let slow = Fares.total_of(&[Step::new(Kind::Ride, 9, 2)]);
+    let dear = Fares.total_of(&[Step::new(Kind::Ride, 1, 3)]);
     check(Fares.at_most(fast, slow))?;
     check(!Fares.at_most(slow, fast))?;
     check(Fares.at_most(slow, dear))?;
@@ -115,13 +108,16 @@ fn a_full_total_takes_no_further_step() -> Result<(), Fail> {
     let mut total = Waits.empty();
     let mut cents = Fares.empty();
     for _ in 0..MOST_STEPS {
-        total = Waits.add(total, step(Kind::Start, 1, 0));
-        cents = Fares.add(cents, step(Kind::Ride, 65535, 65535));
+        total = Waits.add(total, Step::new(Kind::Start, 1, 0));
+        cents = Fares.add(cents, Step::new(Kind::Ride, 65535, 65535));
     }
     check_eq(Waits.steps(total), 8640)?;
     check_eq(cents.fare(), 566222400)?;
-    let more = Waits.add(total, step(Kind::Start, 2, 0));
+    let more = Waits.add(total, Step::new(Kind::Start, 2, 0));
     check_eq(more.longest(), 1)?;
     check_eq(Waits.steps(more), 8640)?;
-    check_eq(Fares.add(cents, step(Kind::Ride, 1, 1)).fare(), 566222400)
+    check_eq(
+        Fares.add(cents, Step::new(Kind::Ride, 1, 1)).fare(),
+        566222400,
+    )
 }

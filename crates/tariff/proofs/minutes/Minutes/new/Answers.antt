@@ -1,4 +1,4 @@
-use Rattle.tariff.proofs.MinuteTotals.{made-fair, refused}
+use Rattle.tariff.proofs.MinuteTotals.{made-fair}
 use Rattle.tariff.proofs.minutes.Minutes.new.Needs as need
 
 pub returns : need.returns

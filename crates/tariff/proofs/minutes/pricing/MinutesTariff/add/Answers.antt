@@ -1,5 +1,5 @@
 use mathlib.Core.Path.{sym, ap, _∙_}
-use Prim.Native.Nat.{_+_, _<_}
+use Prim.Native.Nat.{_+_}
 use Rattle.tariff.proofs.MinuteTotals.{same, with-full}
 use Rattle.tariff.specs.Counting.{taken-room}
 use Rattle.tariff.proofs.minutes.pricing.MinutesTariff.add.Needs as need

@@ -1,0 +1,6 @@
+mod Collected
+mod Cuts
+mod Digits
+mod FilledHistories
+mod Fortnights
+mod Words

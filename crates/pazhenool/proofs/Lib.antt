@@ -1,4 +1,0 @@
-mod Collected
-mod Cuts
-mod Digits
-mod Fortnights

@@ -1,5 +1,0 @@
-pub mod Cuts
-pub mod Input
-pub mod Lines
-pub mod Numbers
-pub mod Running
