@@ -1,0 +1,9 @@
+pub mod Cheapest
+pub mod Choosing
+pub mod Clock
+pub mod Connections
+pub mod Labels
+pub mod Prices
+pub mod Rides
+pub mod SmallTimetable
+pub mod Whole

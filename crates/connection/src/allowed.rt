@@ -1,0 +1,35 @@
+// Which rides a query allows: each rule in a function of its own.
+ghost use mathlib.Core.Path.{_≡_};
+ghost use Rattle.connection.specs.Rides.{can-catch, may-board, may-alight, offers};
+use crate::query::Query;
+use book::rows::StopRow;
+
+// Whether a traveller who is there from the one minute on catches a train that leaves at the other.
+pub fn can_catch(there: u16, leaving: u16) -> bool
+    ensures { λ r. ⌜ r ≡ can-catch there leaving ⌝ }
+{
+    there <= leaving
+}
+
+// Whether one may board a train at the stop.
+pub fn may_board(stop: &StopRow) -> bool
+    ensures { λ r. ⌜ r ≡ may-board (now (stop .entry)) ⌝ }
+{
+    stop.depart.is_some()
+}
+
+// Whether one may leave a train at the stop.
+pub fn may_alight(stop: &StopRow) -> bool
+    ensures { λ r. ⌜ r ≡ may-alight (now (stop .entry)) ⌝ }
+{
+    stop.arrive.is_some()
+}
+
+impl Query {
+    // Whether a train with these features has all that the query asks for.
+    pub fn offered_by(&self, features: u16) -> bool
+        ensures { λ r. ⌜ r ≡ offers (now (self .entry)) features ⌝ }
+    {
+        features & self.features == self.features
+    }
+}
