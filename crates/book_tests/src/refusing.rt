@@ -3,6 +3,7 @@ use crate::rows::ends;
 use crate::rows::enter;
 use crate::rows::leaves;
 use crate::rows::next;
+use crate::rows::passes;
 use crate::rows::stop_row;
 use crate::rows::withdraw;
 use book::refusal::Refused;
@@ -167,9 +168,9 @@ fn altered_stop_rows_are_refused_under_1_before_any_other_number() -> Result<(),
     check_eq(unknown, 1)
 }
 
-// An entry with a first and a last stop, over tables that are then cut to these lengths: under which numbers another stop
-// and the finish are refused.
-fn cut_short(train_rows: usize, stop_rows: usize) -> Result<(u8, u8), (Book, u8)> {
+// An entry with two stops, over tables that are then cut to these lengths: under which numbers another stop and the
+// finish are refused.
+fn cut_short(second: StopRow, train_rows: usize, stop_rows: usize) -> Result<(u8, u8), (Book, u8)> {
     let mut trains = [TrainRow::BLANK; 2];
     let mut stops = [StopRow::BLANK; 4];
     let entry = match Book::new().begin(&trains, &stops, 7, 127, 0) {
@@ -177,7 +178,7 @@ fn cut_short(train_rows: usize, stop_rows: usize) -> Result<(u8, u8), (Book, u8)
         Err(Refused { back, refusal }) => return Err((back, refusal.number())),
     };
     let entry = next(entry, &trains, &mut stops, leaves(1, 0))?;
-    let entry = next(entry, &trains, &mut stops, ends(2, 1))?;
+    let entry = next(entry, &trains, &mut stops, second)?;
     let trains = &mut trains[0..train_rows.min(2)];
     let stops = &mut stops[0..stop_rows.min(4)];
     let (entry, stop) = match entry.stop(trains, stops, 3, Some(2), None) {
@@ -194,18 +195,20 @@ fn cut_short(train_rows: usize, stop_rows: usize) -> Result<(u8, u8), (Book, u8)
 }
 
 // The same, or twice the number under which the entry itself was refused.
-fn refusals_when_cut(train_rows: usize, stop_rows: usize) -> (u8, u8) {
-    match cut_short(train_rows, stop_rows) {
+fn refusals_when_cut(second: StopRow, train_rows: usize, stop_rows: usize) -> (u8, u8) {
+    match cut_short(second, train_rows, stop_rows) {
         Ok(refusals) => refusals,
         Err((_, refusal)) => (refusal, refusal),
     }
 }
 
-// A stop past the last is refused under 5, but under 1 where the rows of the entry do not fit.
+// A stop past the last is refused under 5, one out of order under 9, and a finish without a last stop under 11; but
+// under 1 where the rows of the entry do not fit.
 #[test]
 fn an_entry_whose_rows_do_not_fit_is_refused_under_1_first() -> Result<(), Fail> {
-    check(refusals_when_cut(2, 4) == (5, 0))?;
-    check(refusals_when_cut(1, 2) == (5, 0))?;
-    check(refusals_when_cut(0, 4) == (1, 1))?;
-    check(refusals_when_cut(2, 1) == (1, 1))
+    check(refusals_when_cut(ends(2, 1), 2, 4) == (5, 0))?;
+    check(refusals_when_cut(ends(2, 1), 1, 2) == (5, 0))?;
+    check(refusals_when_cut(ends(2, 1), 0, 4) == (1, 1))?;
+    check(refusals_when_cut(passes(2, 1, 2), 2, 4) == (9, 11))?;
+    check(refusals_when_cut(passes(2, 1, 2), 2, 1) == (1, 1))
 }
