@@ -19,7 +19,7 @@ use Rattle.calendar.specs.Weekdays.{weekly}
 use Rattle.connection.specs.Cheapest.{Tells-the-cheapest}
 use Rattle.connection.specs.Labels.{cheapest-total, Labels-tell}
 use Rattle.connection.specs.Prices.{price}
-use Rattle.connection.specs.SmallTimetable.{Priced, minutes-and-5-a-change, fares-then-minutes, longest-wait, Found, Case, five, Holds-under, Holds-by, Holds, edge-journeys, Every-edge-journey-holds}
+use Rattle.connection.specs.SmallTimetable.{Tariff-asked, minutes-and-5-a-change, fares-then-minutes, longest-of-waits, Found, Case, five, Holds-under, Holds-by, Holds, edge-journeys, Every-edge-journey-holds}
 use Rattle.connection.specs.Whole.{Keep-the-rules}
 use Rattle.connection.proofs.ConnectionTest.{connection-test, passed-connection}
 use Rattle.connection.proofs.Tests.{both-left, both-right, is-true}
@@ -49,7 +49,7 @@ module _ {A : Type 0} (m : Meaning A) (shown : A → List ℕ) where
       connection-test (c .trains) weekly (c .query) (f .rides) && (m .at-most total t && same-numbers (shown total) (f .total))
 
   module _ (transitive : Transitive m) where
-    holds : (c : Case) (o : Option A) (found : Option Found) → Tells-the-cheapest m weekly (c .trains) (c .query) o → T (passes c o found) → Holds-under m shown c found
+    holds : (c : Case) (o : Option A) (found : Option Found) → Tells-the-cheapest m (c .trains) weekly (c .query) o → T (passes c o found) → Holds-under m shown c found
     unfolding passes
     holds c None None tells t = tells
     holds c None (Some f) tells t = absurd t
@@ -68,14 +68,14 @@ module _ {A : Type 0} (m : Meaning A) (shown : A → List ℕ) where
         )
 
 -- ---- all of them
-passes-by : Priced → Case → Bool
+passes-by : Tariff-asked → Case → Bool
 passes-by minutes-and-5-a-change c = passes (by-minutes five) (λ t. t .minutes ∷ []) c (cheapest-total (by-minutes five) (c .trains) weekly (c .query)) (c .found)
 passes-by fares-then-minutes c = passes (by-fares record {}) (λ t. t .fare ∷ t .minutes ∷ []) c (cheapest-total (by-fares record {}) (c .trains) weekly (c .query)) (c .found)
-passes-by longest-wait c = passes (by-waits record {}) (λ t. t .longest ∷ []) c (cheapest-total (by-waits record {}) (c .trains) weekly (c .query)) (c .found)
+passes-by longest-of-waits c = passes (by-waits record {}) (λ t. t .longest ∷ []) c (cheapest-total (by-waits record {}) (c .trains) weekly (c .query)) (c .found)
 
 all-pass : List Case → Bool
 all-pass [] = true
-all-pass (c ∷ cs) = (all-sound (c .trains) && passes-by (c .priced) c) && all-pass cs
+all-pass (c ∷ cs) = (all-sound (c .trains) && passes-by (c .tariff) c) && all-pass cs
 
 keep-the-rules : Sound-is-the-rules → (trains : List Train) → T (all-sound trains) → Keep-the-rules trains
 keep-the-rules rules [] t = tt
@@ -91,19 +91,19 @@ module _ (rules : Sound-is-the-rules)
     (minutes : Labels-tell (by-minutes five)) (minutes-pass : Transitive (by-minutes five))
     (fares : Labels-tell (by-fares record {})) (fares-pass : Transitive (by-fares record {}))
     (waits : Labels-tell (by-waits record {})) (waits-pass : Transitive (by-waits record {})) where
-  holds-by : (p : Priced) (c : Case) → Keep-the-rules (c .trains) → T (passes-by p c) → Holds-by p c
+  holds-by : (p : Tariff-asked) (c : Case) → Keep-the-rules (c .trains) → T (passes-by p c) → Holds-by p c
   unfolding passes-by
   holds-by minutes-and-5-a-change c keep t = holds (by-minutes five) _ minutes-pass c _ (c .found) (minutes (c .trains) weekly (c .query) keep) t
   holds-by fares-then-minutes c keep t = holds (by-fares record {}) _ fares-pass c _ (c .found) (fares (c .trains) weekly (c .query) keep) t
-  holds-by longest-wait c keep t = holds (by-waits record {}) _ waits-pass c _ (c .found) (waits (c .trains) weekly (c .query) keep) t
+  holds-by longest-of-waits c keep t = holds (by-waits record {}) _ waits-pass c _ (c .found) (waits (c .trains) weekly (c .query) keep) t
 
   all-hold : (cs : List Case) → T (all-pass cs) → All Holds cs
   unfolding all-pass
   all-hold [] t = tt
   all-hold (c ∷ cs) t =
-      let here = all-sound (c .trains) && passes-by (c .priced) c in
+      let here = all-sound (c .trains) && passes-by (c .tariff) c in
       let one = both-left here (all-pass cs) t in (
-        holds-by (c .priced) c (keep-the-rules rules (c .trains) (both-left (all-sound (c .trains)) _ one)) (both-right (all-sound (c .trains)) _ one),
+        holds-by (c .tariff) c (keep-the-rules rules (c .trains) (both-left (all-sound (c .trains)) _ one)) (both-right (all-sound (c .trains)) _ one),
         all-hold cs (both-right here (all-pass cs) t),
       )
 

@@ -34,12 +34,12 @@ module _ {A : Type 0} (m : Meaning A) (trains : List Train) (runs : Pairs) (q : 
   cost-is-way : (t : A) → Costs t → Among (q .changes + 1) (Reached m trains runs q) t
   cost-is-way t x = subst (Among (q .changes + 1) (Reached m trains runs q)) (sym (x .2)) (connection-is-way trains runs q m (x .0) (x .1))
 
-  tells : (o : Option A) → Best (m .at-most) Costs o → Tells-the-cheapest m runs trains q o
+  tells : (o : Option A) → Best (m .at-most) Costs o → Tells-the-cheapest m trains runs q o
   tells None h = λ rides c. h (price m trains q rides) (rides, c, refl)
   tells (Some t) h =
       (h .0 .0, record { connection = h .0 .1; priced = h .0 .2; cheapest = λ other c. h .1 (price m trains q other) (other, c, refl) })
 
-  pub labels-tell-the-cheapest : Connex m → Transitive m → Keeps m → Starts m → Counts m → All (λ (t : Train). Rules (t .number) (t .stops)) trains → Tells-the-cheapest m runs trains q (cheapest-total m trains runs q)
+  pub labels-tell-the-cheapest : Connex m → Transitive m → Keeps m → Starts m → Counts m → All (λ (t : Train). Rules (t .number) (t .stops)) trains → Tells-the-cheapest m trains runs q (cheapest-total m trains runs q)
   labels-tell-the-cheapest connex transitive keeps none counts rules =
       tells (cheapest-total m trains runs q)
       (best-same (m .at-most) (Among (q .changes + 1) (Reached m trains runs q)) Costs (cheapest-total m trains runs q) way-costs cost-is-way

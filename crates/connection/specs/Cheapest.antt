@@ -12,11 +12,11 @@ use Rattle.connection.specs.Prices.{price}
 use Rattle.connection.specs.declared.query.Query.{Query}
 use Rattle.connection.specs.declared.ride.Ride.{Ride}
 
-module _ (runs : Pairs) (trains : List Train) (q : Query) where
+module _ (trains : List Train) (runs : Pairs) (q : Query) where
   abbrev pub No-connection : Type 0
   No-connection = (rides : List Ride) → Connection trains runs q rides → ⊥
 
-module _ {Total : Type 0} (m : Meaning Total) (runs : Pairs) (trains : List Train) (q : Query) where
+module _ {Total : Type 0} (m : Meaning Total) (trains : List Train) (runs : Pairs) (q : Query) where
   -- the rides are a connection, the total is its price, and no connection costs less
   pub record Cheapest (total : Total) (rides : List Ride) : Type 0 where
     pub connection : Connection trains runs q rides
@@ -26,4 +26,4 @@ module _ {Total : Type 0} (m : Meaning Total) (runs : Pairs) (trains : List Trai
   -- the total of a cheapest connection, or nothing, and then there is none
   abbrev pub Tells-the-cheapest : Option Total → Type 0
   Tells-the-cheapest (Some total) = (rides : List Ride) × Cheapest total rides
-  Tells-the-cheapest None = No-connection runs trains q
+  Tells-the-cheapest None = No-connection trains runs q

@@ -10,7 +10,7 @@ midnight DayBefore = 0
 midnight SameDay = 1440
 midnight DayAfter = 2880
 
--- that day
+-- that day; a query's own day has a day before it
 abbrev pub sets-out : Query → Shift → ℕ
 sets-out q DayBefore = q .day - 1
 sets-out q SameDay = q .day

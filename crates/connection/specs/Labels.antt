@@ -94,4 +94,4 @@ module _ {A : Type 0} (m : Meaning A) where
 -- the labels tell what the cheapest connection costs, over trains that keep the rules
 abbrev pub Labels-tell : {Total : Type 0} → Meaning Total → Type 0
 Labels-tell m =
-    (trains : List Train) (runs : Pairs) (q : Query) → Keep-the-rules trains → Tells-the-cheapest m runs trains q (cheapest-total m trains runs q)
+    (trains : List Train) (runs : Pairs) (q : Query) → Keep-the-rules trains → Tells-the-cheapest m trains runs q (cheapest-total m trains runs q)

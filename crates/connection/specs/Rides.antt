@@ -16,10 +16,10 @@ use Rattle.connection.specs.declared.query.Query.{Query}
 use Rattle.connection.specs.declared.ride.Ride.{Ride}
 use Rattle.connection.specs.declared.ride.Shift.{Shift}
 
--- ---- four rules, each in one place
--- a traveller who is there from one minute on catches a train that leaves at the other
+-- ---- the rules, each in one place
+-- who arrives at the one minute catches another train that leaves at the other
 abbrev pub can-catch : ℕ → ℕ → Bool
-can-catch there leaving = leb there leaving
+can-catch arrived leaving = leb arrived leaving
 
 -- one may board where the train leaves, and alight where it arrives
 abbrev pub may-board : StopRow → Bool

@@ -43,7 +43,7 @@ train-12 = record { number = 12; code = 127; features = 0; stops = first-stop 2 
 abbrev pub train-13-at : ℕ → Train
 train-13-at departs = record { number = 13; code = 31; features = 1; stops = first-stop 3 departs 250 ∷ last-stop 4 (o-clock 9 50) ∷ [] }
 
--- it leaves after midnight of the day after the one on which it sets out, a Monday
+-- it sets out on Mondays, and leaves its first stop after midnight
 abbrev pub train-14 : Train
 train-14 = record { number = 14; code = 1; features = 0; stops = first-stop 6 (o-clock 24 30) 0 ∷ last-stop 7 (o-clock 25 0) ∷ [] }
 
@@ -51,10 +51,10 @@ abbrev pub small : List Train
 small = train-11 ∷ train-12 ∷ train-13-at (o-clock 9 10) ∷ []
 
 -- ---- the journeys
-pub data Priced : Type 0 where
-  minutes-and-5-a-change : Priced
-  fares-then-minutes : Priced
-  longest-wait : Priced
+pub data Tariff-asked : Type 0 where
+  minutes-and-5-a-change : Tariff-asked
+  fares-then-minutes : Tariff-asked
+  longest-of-waits : Tariff-asked
 
 pub record Found : Type 0 where
   pub total : List ℕ
@@ -63,7 +63,7 @@ pub record Found : Type 0 where
 pub record Case : Type 0 where
   pub trains : List Train
   pub query : Query
-  pub priced : Priced
+  pub tariff : Tariff-asked
   pub found : Option Found
 
 abbrev pub five : Minutes
@@ -72,16 +72,16 @@ five = record { penalty = 5; fair = omega arith }
 -- under one tariff, of whose totals these numbers are shown: what is found is a cheapest connection, or there is none
 abbrev pub Holds-under : {Total : Type 0} → Meaning Total → (Total → List ℕ) → Case → Option Found → Type 0
 Holds-under m shown c (Some f) =
-    Cheapest m weekly (c .trains) (c .query) (price m (c .trains) (c .query) (f .rides)) (f .rides) × (shown (price m (c .trains) (c .query) (f .rides)) ≡ f .total)
-Holds-under m shown c None = No-connection weekly (c .trains) (c .query)
+    Cheapest m (c .trains) weekly (c .query) (price m (c .trains) (c .query) (f .rides)) (f .rides) × (shown (price m (c .trains) (c .query) (f .rides)) ≡ f .total)
+Holds-under m shown c None = No-connection (c .trains) weekly (c .query)
 
-abbrev pub Holds-by : Priced → Case → Type 0
+abbrev pub Holds-by : Tariff-asked → Case → Type 0
 Holds-by minutes-and-5-a-change c = Holds-under (by-minutes five) (λ t. t .minutes ∷ []) c (c .found)
 Holds-by fares-then-minutes c = Holds-under (by-fares record {}) (λ t. t .fare ∷ t .minutes ∷ []) c (c .found)
-Holds-by longest-wait c = Holds-under (by-waits record {}) (λ t. t .longest ∷ []) c (c .found)
+Holds-by longest-of-waits c = Holds-under (by-waits record {}) (λ t. t .longest ∷ []) c (c .found)
 
 abbrev pub Holds : Case → Type 0
-Holds c = Holds-by (c .priced) c
+Holds c = Holds-by (c .tariff) c
 
 -- from 1 to 4; day 3 is a Tuesday
 abbrev pub asked : ℕ → ℕ → ℕ → ℕ → Query
@@ -99,15 +99,15 @@ two-rides = ride 0 SameDay 0 2 ∷ ride 2 SameDay 0 1 ∷ []
 abbrev pub three-rides : List Ride
 three-rides = ride 0 SameDay 0 1 ∷ ride 1 SameDay 0 1 ∷ ride 2 SameDay 0 1 ∷ []
 
-abbrev pub case : List Train → Query → Priced → List ℕ → List Ride → Case
-case trains query priced total rides = record { trains = trains; query = query; priced = priced; found = Some (record { total = total; rides = rides }) }
+abbrev pub case : List Train → Query → Tariff-asked → List ℕ → List Ride → Case
+case trains query tariff total rides = record { trains = trains; query = query; tariff = tariff; found = Some (record { total = total; rides = rides }) }
 
-abbrev pub none : List Train → Query → Priced → Case
-none trains query priced = record { trains = trains; query = query; priced = priced; found = None }
+abbrev pub none : List Train → Query → Tariff-asked → Case
+none trains query tariff = record { trains = trains; query = query; tariff = tariff; found = None }
 
 abbrev pub edge-journeys : List Case
 edge-journeys =
-    -- a change that takes no minutes
+    -- a change at 09:10 that takes no minutes
     case small (asked 3 (o-clock 7 50) 2 0) minutes-and-5-a-change (125 ∷ []) two-rides
     -- the change is missed by a minute
     ∷ case (train-11 ∷ train-12 ∷ train-13-at (o-clock 9 9) ∷ []) (asked 3 (o-clock 7 50) 2 0) minutes-and-5-a-change (130 ∷ []) three-rides
@@ -115,7 +115,8 @@ edge-journeys =
     ∷ case small (asked 3 (o-clock 7 50) 2 0) fares-then-minutes (650 ∷ 120 ∷ []) three-rides
     ∷ case small (asked 3 (o-clock 7 50) 1 0) fares-then-minutes (750 ∷ 120 ∷ []) two-rides
     ∷ case small (asked 3 (o-clock 7 50) 2 1) fares-then-minutes (750 ∷ 120 ∷ []) two-rides
-    ∷ case small (asked 3 (o-clock 7 56) 2 0) longest-wait (4 ∷ []) two-rides
+    -- the wait at the start is the longest
+    ∷ case small (asked 3 (o-clock 7 56) 2 0) longest-of-waits (4 ∷ []) two-rides
     -- a Saturday
     ∷ none small (asked 7 (o-clock 7 50) 2 0) fares-then-minutes
     -- after midnight, on the run of the day before

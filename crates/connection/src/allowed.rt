@@ -1,14 +1,14 @@
-// Which rides a query allows: each rule in a function of its own.
+// Rules of rides as functions, each of its own.
 ghost use mathlib.Core.Path.{_≡_};
 ghost use Rattle.connection.specs.Rides.{can-catch, may-board, may-alight, offers};
 use crate::query::Query;
 use book::rows::StopRow;
 
-// Whether a traveller who is there from the one minute on catches a train that leaves at the other.
-pub fn can_catch(there: u16, leaving: u16) -> bool
-    ensures { λ r. ⌜ r ≡ can-catch there leaving ⌝ }
+// Whether one who arrives at the one minute catches another train that leaves at the other.
+pub fn can_catch(arrived: u16, leaving: u16) -> bool
+    ensures { λ r. ⌜ r ≡ can-catch arrived leaving ⌝ }
 {
-    there <= leaving
+    arrived <= leaving
 }
 
 // Whether one may board a train at the stop.

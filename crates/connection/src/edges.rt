@@ -15,6 +15,7 @@ use tariff::waits::pricing::WaitsTariff;
 pub fn edge_journeys_hold()
     ensures { λ _. ⌜ Every-edge-journey-holds ⌝ }
 {
+    // that trains which pass the test of the rules keep them
     every_history_holds();
     labels_tell(&Fares);
     labels_tell(&Waits);
@@ -23,7 +24,8 @@ pub fn edge_journeys_hold()
     }
 }
 
-// The cheapest total that labels come to is that of a cheapest connection.
+// The cheapest total that labels come to is that of a cheapest connection; and "at most" passes along, so that rides
+// which cost no more are cheapest too.
 fn labels_tell<P: Tariff>(tariff: &P)
     ensures cheapest { λ _. ⌜ Labels-tell (P·Tariff .meaning (now (tariff .entry))) ⌝ }
     ensures transitive { λ _. ⌜ Transitive (P·Tariff .meaning (now (tariff .entry))) ⌝ }

@@ -1,4 +1,4 @@
-// What a connection is, what it costs, and that the cheapest can be found.
+// What a connection is and what it costs.
 //
 //     query     from 1 to 4 on day 3, from minute 470 on, 2 changes at most
 //     run       a train with the day on which it sets out: the query's day, the day before or the day after
