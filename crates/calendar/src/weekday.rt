@@ -1,6 +1,7 @@
 // The days of the week.
 ghost use mathlib.Core.Path.{_≡_};
-ghost use Rattle.calendar.specs.Weekdays.{weekday-of, weekday-number};
+ghost use Rattle.std.specs.declared.option.Option.the-variants.{Some};
+ghost use Rattle.calendar.specs.Weekdays.{name-of, weekday-of, weekday-number};
 use std::fmt;
 
 #[derive(Clone, Copy, PartialEq, Eq, Debug)]
@@ -40,6 +41,8 @@ impl Weekday {
 
 // The weekday's English name.
 pub impl fmt::Display for Weekday as WeekdayDisplay {
+    ghost shown = { λ w. Some (name-of w) };
+
     fn fmt<W: fmt::Write>(&self, f: &mut fmt::Formatter<W>) -> fmt::Result {
         match self {
             Weekday::Monday => write!(f, "Monday"),
