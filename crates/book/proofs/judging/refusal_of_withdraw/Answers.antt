@@ -9,11 +9,11 @@ pub returns-then-not-hold : goal.returns-then-not-hold
 unfolding withdraw_refusal
 returns-then-not-hold c = search rules
 
-pub slice-bounds-used-end : goal.slice-bounds-used-end
-slice-bounds-used-end c = let h = (held _ _ _ _ (sym c.if-not-hold.ensures)).trains_fit in omega arith
+pub slice_bounds-used-end : goal.slice_bounds-used-end
+slice_bounds-used-end c = let h = (held _ _ _ _ (sym c.if-not-hold.ensures)).trains_fit in omega arith
 
-pub returns-then-place-of-used : goal.returns-then-place-of-used
-returns-then-place-of-used c = let e = withdraw_flat _ _ _ c.args.number c.if-not-hold.ensures in grind (arith, nat_tests)
+pub returns-then-place_of-used : goal.returns-then-place_of-used
+returns-then-place_of-used c = let e = withdraw_flat _ _ _ c.args.number c.if-not-hold.ensures in grind (arith, nat_tests)
 
 pub returns : goal.returns
 returns c = let e = withdraw_flat _ _ _ c.args.number c.if-not-hold.ensures in grind (arith, nat_tests)

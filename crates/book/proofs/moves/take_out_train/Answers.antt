@@ -8,8 +8,8 @@ use Rattle.book.proofs.moves.take_out_train.Goals as goal
 pub loop-i-init : goal.loop-i-init
 loop-i-init c = moved_none (forward c.args.by) c.args.trains.now c.args.at 1
 
-pub overflow-sub-row : goal.overflow-sub-row
-overflow-sub-row c =
+pub overflow_sub-row : goal.overflow_sub-row
+overflow_sub-row c =
     let read = moved_read (forward c.args.by) c.args.trains.now c.args.at 1 c.loop-i.i no_row (omega arith) (omega arith) in
     let same = ap (λ (r : TrainRow). r.first) (ap (λ (xs : List TrainRow). get_or xs (c.loop-i.i + 1) no_row) c.loop-i.invariant ∙ read) in
     omega (arith, c.requires.later (c.loop-i.i + 1) (omega arith) (omega arith))

@@ -2,26 +2,26 @@ use Rattle.std.proofs.Common.{rules}
 use Rattle.book.specs.Stops.{stop_fault}
 use Rattle.book.proofs.rules.fault_of_stop.Goals as goal
 
-pub returns-then-has-ended : goal.returns-then-has-ended
+pub returns-then-has_ended : goal.returns-then-has_ended
 unfolding stop_fault
-returns-then-has-ended c = search rules
+returns-then-has_ended c = search rules
 
-pub returns-then-stop-gt-LAST-STATION : goal.returns-then-stop-gt-LAST-STATION
+pub returns-then-stop-gt-LAST_STATION : goal.returns-then-stop-gt-LAST_STATION
 unfolding stop_fault
-returns-then-stop-gt-LAST-STATION c = search rules
+returns-then-stop-gt-LAST_STATION c = search rules
 
-pub returns-then-is-at-station-of : goal.returns-then-is-at-station-of
+pub returns-then-is_at_station_of : goal.returns-then-is_at_station_of
 unfolding stop_fault
-returns-then-is-at-station-of c = search rules
+returns-then-is_at_station_of c = search rules
 
-pub returns-then-has-wrong-times : goal.returns-then-has-wrong-times
+pub returns-then-has_wrong_times : goal.returns-then-has_wrong_times
 unfolding stop_fault
-returns-then-has-wrong-times c = search rules
+returns-then-has_wrong_times c = search rules
 
-pub returns-then-has-bad-time : goal.returns-then-has-bad-time
+pub returns-then-has_bad_time : goal.returns-then-has_bad_time
 unfolding stop_fault
-returns-then-has-bad-time c = search rules
+returns-then-has_bad_time c = search rules
 
-pub returns-else-has-bad-time : goal.returns-else-has-bad-time
+pub returns-else-has_bad_time : goal.returns-else-has_bad_time
 unfolding stop_fault
-returns-else-has-bad-time c = search rules
+returns-else-has_bad_time c = search rules

@@ -7,18 +7,18 @@ pub returns-then-not-hold : goal.returns-then-not-hold
 unfolding entry_holds
 returns-then-not-hold c = grind (arith, nat_tests)
 
-pub returns-then-entry-ge-MOST-TRAINS : goal.returns-then-entry-ge-MOST-TRAINS
+pub returns-then-entry-ge-MOST_TRAINS : goal.returns-then-entry-ge-MOST_TRAINS
 unfolding entry_holds
-returns-then-entry-ge-MOST-TRAINS c = grind (arith, nat_tests)
+returns-then-entry-ge-MOST_TRAINS c = grind (arith, nat_tests)
 
 pub returns-then-end : goal.returns-then-end
 unfolding entry_holds
 returns-then-end c = grind (arith, nat_tests)
 
-pub returns-then-taken-le-MOST-STOPS-OF-TRAIN : goal.returns-then-taken-le-MOST-STOPS-OF-TRAIN
+pub returns-then-taken-le-MOST_STOPS_OF_TRAIN : goal.returns-then-taken-le-MOST_STOPS_OF_TRAIN
 unfolding entry_holds
-returns-then-taken-le-MOST-STOPS-OF-TRAIN c = grind (arith, nat_tests)
+returns-then-taken-le-MOST_STOPS_OF_TRAIN c = grind (arith, nat_tests)
 
-pub returns-else-taken-le-MOST-STOPS-OF-TRAIN : goal.returns-else-taken-le-MOST-STOPS-OF-TRAIN
+pub returns-else-taken-le-MOST_STOPS_OF_TRAIN : goal.returns-else-taken-le-MOST_STOPS_OF_TRAIN
 unfolding entry_holds
-returns-else-taken-le-MOST-STOPS-OF-TRAIN c = grind (arith, nat_tests)
+returns-else-taken-le-MOST_STOPS_OF_TRAIN c = grind (arith, nat_tests)

@@ -11,14 +11,14 @@ bounds-trains-book c =
     let e = ap (λ (b : Book). b.trains) c.abandon-book.ensures.answer in
     omega arith
 
-pub overflow-add-result : goal.overflow-add-result
-overflow-add-result c =
+pub overflow_add-result : goal.overflow_add-result
+overflow_add-result c =
     let k = entry_held _ _ _ (sym (finish_held _ _ _ (sym c.in-None.ensures))) in
     let e = ap (λ (b : Book). b.trains) c.abandon-book.ensures.answer in
     omega arith
 
-pub overflow-add-result-in-None : goal.overflow-add-result-in-None
-overflow-add-result-in-None c =
+pub overflow_add-result-in-None : goal.overflow_add-result-in-None
+overflow_add-result-in-None c =
     let k = entry_held _ _ _ (sym (finish_held _ _ _ (sym c.in-None.ensures))) in
     let e = ap (λ (b : Book). b.stops) c.abandon-book.ensures.answer in
     omega arith

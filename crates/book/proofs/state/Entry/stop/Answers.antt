@@ -6,8 +6,8 @@ use Rattle.book.proofs.state.Entry.stop.Goals as goal
 pub bounds-stops-self : goal.bounds-stops-self
 bounds-stops-self c = omega (arith, (stop_passed _ _ _ _ (sym c.in-None.ensures)).3)
 
-pub overflow-add-self : goal.overflow-add-self
-overflow-add-self c = omega (arith, (stop_passed _ _ _ _ (sym c.in-None.ensures)).1)
+pub overflow_add-self : goal.overflow_add-self
+overflow_add-self c = omega (arith, (stop_passed _ _ _ _ (sym c.in-None.ensures)).1)
 
 pub returns-in-Some : goal.returns-in-Some
 returns-in-Some c = stop_continued _ _ _ _ _ _ (search rules) (search rules)

@@ -5,11 +5,11 @@ use Rattle.calendar.proofs.date.Date.of.Goals as goal
 
 pub loop-over-preserved : goal.loop-over-preserved
 loop-over-preserved c =
-    let year = c.year-day-of-year.result.year in
+    let year = c.year_day_of-year.result.year in
     let month = c.loop-over.month in
     let over = c.loop-over.over in
     let early : month < 12 = not_december year month over c.loop-over.invariant.1 c.loop-over.invariant.2 (omega arith) in (
-      ap (λ n. after (over - n) (on year (month + 1) 1)) c.month-length-over.ensures
+      ap (λ n. after (over - n) (on year (month + 1) 1)) c.month_length-over.ensures
           ∙ gone_by (month_length year month) over (on year month 1) (on year (month + 1) 1) (omega arith) (whole_month year month early)
           ∙ c.loop-over.invariant.0,
       omega arith,
@@ -18,7 +18,7 @@ loop-over-preserved c =
 
 pub returns : goal.returns
 returns c =
-    let year = c.year-day-of-year.result.year in
+    let year = c.year_day_of-year.result.year in
     let month = c.loop-over.month in
     let over = c.loop-over.over in
     let e : over + 1 ≡ 1 + over = omega arith in
