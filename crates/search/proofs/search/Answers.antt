@@ -20,31 +20,31 @@ returns-in-Err g c =
       history = c.check.ensures.history;
     }
 
-pub slice-bounds-trains-end : goal.slice-bounds-trains-end
-slice-bounds-trains-end g c =
+pub slice_bounds-trains-end : goal.slice_bounds-trains-end
+slice_bounds-trains-end g c =
     let a = c.args in
-    let held : holds a.book.now.trains a.book.now.stops a.trains.now a.stops.now ≡ true = passed a.book.now a.trains.now a.stops.now c.in-default.ensures.answer in
+    let held : holds a.book.now.trains a.book.now.stops a.trains.now a.stops.now ≡ true = passed a.book.now a.trains.now a.stops.now c.in_default.ensures.answer in
     let fit : c.trains.result ≤ length a.trains.now = omega (arith, c.trains.ensures, trains_fit a.book.now.trains a.book.now.stops a.trains.now a.stops.now held) in
     search rules
 
-pub slice-bounds-stops-end : goal.slice-bounds-stops-end
-slice-bounds-stops-end g c =
+pub slice_bounds-stops-end : goal.slice_bounds-stops-end
+slice_bounds-stops-end g c =
     let a = c.args in
-    let held : holds a.book.now.trains a.book.now.stops a.trains.now a.stops.now ≡ true = passed a.book.now a.trains.now a.stops.now c.in-default.ensures.answer in
+    let held : holds a.book.now.trains a.book.now.stops a.trains.now a.stops.now ≡ true = passed a.book.now a.trains.now a.stops.now c.in_default.ensures.answer in
     let fit : c.stops.result ≤ length a.stops.now = omega (arith, c.stops.ensures, stops_fit a.book.now.trains a.book.now.stops a.trains.now a.stops.now held) in
     search rules
 
-pub refusal-of-requires : goal.refusal-of-requires
-refusal-of-requires g c =
+pub refusal_of-requires : goal.refusal_of-requires
+refusal_of-requires g c =
     let a = c.args in
-    let held = passed a.book.now a.trains.now a.stops.now c.in-default.ensures.answer in
+    let held = passed a.book.now a.trains.now a.stops.now c.in_default.ensures.answer in
     let hand = handed a.book.now a.trains.now a.stops.now (c.trains.result - 0) (c.stops.result - 0) held c.every_history_holds.ensures.rules (omega (arith, c.trains.ensures)) (omega (arith, c.stops.ensures)) in
     record { few = hand.few }
 
 pub returns-in-Some : goal.returns-in-Some
 returns-in-Some g c =
     let a = c.args in
-    let held = passed a.book.now a.trains.now a.stops.now c.in-default.ensures.answer in
+    let held = passed a.book.now a.trains.now a.stops.now c.in_default.ensures.answer in
     let hand = handed a.book.now a.trains.now a.stops.now (c.trains.result - 0) (c.stops.result - 0) held c.every_history_holds.ensures.rules (omega (arith, c.trains.ensures)) (omega (arith, c.stops.ensures)) in
     let refused : search_refusal a.book.now a.trains.now a.stops.now a.query (length a.rides.now) (length a.work.now) ≡ Some c.in-Some.refusal =
     sym (c.in-Some.ensures ∙ ap (λ (l : List StopRow). query_refusal a.query (length l) (length a.rides.now) (length a.work.now)) hand.counted ∙ same_refusal a.book.now a.trains.now a.stops.now a.query (length a.rides.now) (length a.work.now) held)
@@ -61,10 +61,10 @@ returns-in-Some g c =
 pub cheapest-found-requires : goal.cheapest-found-requires
 cheapest-found-requires g c =
     let a = c.args in
-    let held = passed a.book.now a.trains.now a.stops.now c.in-default.ensures.answer in
+    let held = passed a.book.now a.trains.now a.stops.now c.in_default.ensures.answer in
     let hand = handed a.book.now a.trains.now a.stops.now (c.trains.result - 0) (c.stops.result - 0) held c.every_history_holds.ensures.rules (omega (arith, c.trains.ensures)) (omega (arith, c.stops.ensures)) in
     let used = length (take (c.stops.result - 0) a.stops.now) in
-    let passes = sym c.in-default-refusal-of.ensures in
+    let passes = sym c.in_default-refusal_of.ensures in
     record {
       askable = askable a.query used (length a.rides.now) (length a.work.now) passes;
       timetable = hand.timetable;
@@ -75,17 +75,17 @@ cheapest-found-requires g c =
 pub returns : goal.returns
 returns g c =
     let a = c.args in
-    let held = passed a.book.now a.trains.now a.stops.now c.in-default.ensures.answer in
+    let held = passed a.book.now a.trains.now a.stops.now c.in_default.ensures.answer in
     let hand = handed a.book.now a.trains.now a.stops.now (c.trains.result - 0) (c.stops.result - 0) held c.every_history_holds.ensures.rules (omega (arith, c.trains.ensures)) (omega (arith, c.stops.ensures)) in
     let passes : search_refusal a.book.now a.trains.now a.stops.now a.query (length a.rides.now) (length a.work.now) ≡ None =
-    sym (c.in-default-refusal-of.ensures ∙ ap (λ (l : List StopRow). query_refusal a.query (length l) (length a.rides.now) (length a.work.now)) hand.counted ∙ same_refusal a.book.now a.trains.now a.stops.now a.query (length a.rides.now) (length a.work.now) held)
+    sym (c.in_default-refusal_of.ensures ∙ ap (λ (l : List StopRow). query_refusal a.query (length l) (length a.rides.now) (length a.work.now)) hand.counted ∙ same_refusal a.book.now a.trains.now a.stops.now a.query (length a.rides.now) (length a.work.now) held)
     in
-    let found = subst (λ (ts : List Train). FoundOrNone (g.P.Tariff.meaning a.tariff.now) (g.C.Calendar.runs a.calendar.now) ts a.query c.cheapest_found.result c.cheapest_found.new.rides) hand.same c.cheapest_found.ensures.found in
-    let answer = answers_found _ (λ r. FoundOrNone (g.P.Tariff.meaning a.tariff.now) (g.C.Calendar.runs a.calendar.now) (listed a.book.now.trains a.trains.now a.stops.now) a.query r c.cheapest_found.new.rides) c.cheapest_found.result passes found in
+    let found = subst (λ (ts : List Train). FoundOrNone (g.P.Tariff.meaning a.tariff.now) (g.C.Calendar.runs a.calendar.now) ts a.query c.cheapest-found.result c.cheapest-found.new.rides) hand.same c.cheapest-found.ensures.found in
+    let answer = answers_found _ (λ r. FoundOrNone (g.P.Tariff.meaning a.tariff.now) (g.C.Calendar.runs a.calendar.now) (listed a.book.now.trains a.trains.now a.stops.now) a.query r c.cheapest-found.new.rides) c.cheapest-found.result passes found in
     record {
       answer = answer;
-      rides = c.cheapest_found.ensures.rides;
-      work = blanks_work _ a.work.now c.cheapest_found.new.work c.blank-all.new.work passes (omega arith) c.blank-all.ensures;
-      guarantee = λ calls h. guaranteed (g.P.Tariff.meaning a.tariff.now) (g.C.Calendar.runs a.calendar.now) a.query (length a.rides.now) (length a.work.now) c.cheapest_found.new.rides a.book.now a.trains.now a.stops.now c.cheapest_found.result answer _ (c.every_history_holds.ensures.rows _ _ calls _ _ _ h).0;
+      rides = c.cheapest-found.ensures.rides;
+      work = blanks_work _ a.work.now c.cheapest-found.new.work c.blank_all.new.work passes (omega arith) c.blank_all.ensures;
+      guarantee = λ calls h. guaranteed (g.P.Tariff.meaning a.tariff.now) (g.C.Calendar.runs a.calendar.now) a.query (length a.rides.now) (length a.work.now) c.cheapest-found.new.rides a.book.now a.trains.now a.stops.now c.cheapest-found.result answer _ (c.every_history_holds.ensures.rows _ _ calls _ _ _ h).0;
       history = c.check.ensures.history;
     }

@@ -5,16 +5,16 @@ use Rattle.search.specs.Working.{label_in}
 use Rattle.search.proofs.BestChange.{changes_of_shifts}
 use Rattle.search.proofs.boarding.best_change.Goals as goal
 
-pub best-change-on-before-requires : goal.best-change-on-before-requires
-best-change-on-before-requires g c =
+pub best_change_on-before-requires : goal.best_change_on-before-requires
+best_change_on-before-requires g c =
     record { few = c.requires.few; shallow = c.requires.shallow; within = omega arith; timely = c.requires.timely; known = c.requires.known; chained = c.requires.linked DayBefore }
 
-pub best-change-on-same-requires : goal.best-change-on-same-requires
-best-change-on-same-requires g c =
+pub best_change_on-same-requires : goal.best_change_on-same-requires
+best_change_on-same-requires g c =
     record { few = c.requires.few; shallow = c.requires.shallow; within = omega arith; timely = c.requires.timely; known = c.requires.known; chained = c.requires.linked SameDay }
 
-pub best-change-on-after-requires : goal.best-change-on-after-requires
-best-change-on-after-requires g c =
+pub best_change_on-after-requires : goal.best_change_on-after-requires
+best_change_on-after-requires g c =
     record { few = c.requires.few; shallow = c.requires.shallow; within = omega arith; timely = c.requires.timely; known = c.requires.known; chained = c.requires.linked DayAfter }
 
 pub returns : goal.returns
@@ -24,5 +24,5 @@ returns g c =
     let laws = g.met.P.Tariff in
     record {
       best = changes_of_shifts m (laws.connex a.tariff.now) (laws.transitive a.tariff.now) (ChangesOn m a.stops.now (label_in (length a.stops.now) a.work.now a.layer) a.station a.until a.board)
-          _ _ _ _ _ c.best-change-on-before.ensures.best c.best-change-on-same.ensures.best c.best-change-on-after.ensures.best c.cheaper.ensures c.cheaper-2.ensures;
+          _ _ _ _ _ c.best_change_on-before.ensures.best c.best_change_on-same.ensures.best c.best_change_on-after.ensures.best c.cheaper.ensures c.cheaper-2.ensures;
     }

@@ -41,7 +41,7 @@ loop-row-preserved g c =
     c.change.ensures
     ∙ ap₂ (λ (f : ℕ) (o : Option (Label _)). only_when (may_alight stop && can_catch (arrival stop + midnight a.shift) a.until) (mapped (changed m stop a.shift a.until a.board f) o))
     (ap (λ n. n * length a.stops.now + l.row) c.number.ensures.is)
-    (c.label-at-label.ensures ∙ ap (λ x. label_at a.work.now (x + l.row)) c.part-at-at.ensures)
+    (c.label_at-label.ensures ∙ ap (λ x. label_at a.work.now (x + l.row)) c.part_at-at.ensures)
     in
     (changes_next m (laws.connex a.tariff.now) (laws.transitive a.tariff.now) a.stops.now label a.station a.until a.board a.shift l.row _ l.best _ _ here (l.invariant.1 here) link made c.cheaper-best.ensures l.invariant.0, link.stands, link.labelled)
 

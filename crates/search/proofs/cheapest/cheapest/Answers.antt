@@ -4,30 +4,30 @@ use Rattle.search.proofs.CheapestEnd.{nothing_found, whole, end_layer, whole_tol
 use Rattle.search.proofs.Layering.{layers_below}
 use Rattle.search.proofs.cheapest.cheapest.Goals as goal
 
-pub best-end-requires : goal.best-end-requires
-best-end-requires g c =
+pub best_end-requires : goal.best_end-requires
+best_end-requires g c =
     let a = c.args in
-    let more = layers_below (length a.stops.now) c.fill-layers-layers.result (a.query.now.changes + 1) c.fill-layers-layers.ensures.few in
-    record { few = c.requires.timetable.ordered.few_stops; shallow = omega (arith, c.fill-layers-layers.ensures.few); within = omega (arith, more) }
+    let more = layers_below (length a.stops.now) c.fill_layers-layers.result (a.query.now.changes + 1) c.fill_layers-layers.ensures.few in
+    record { few = c.requires.timetable.ordered.few_stops; shallow = omega (arith, c.fill_layers-layers.ensures.few); within = omega (arith, more) }
 
-pub returns-in-default : goal.returns-in-default
-returns-in-default g c =
+pub returns-in_default : goal.returns-in_default
+returns-in_default g c =
     let a = c.args in
     let t = a.tariff.now in
     let laws = g.met.P.Tariff in
-    let layers = c.fill-layers-layers in
+    let layers = c.fill_layers-layers in
     let runs = g.C.Calendar.runs a.calendar.now in
     record {
-      found = (refl, nothing_found (g.P.Tariff.meaning t) (laws.connex t) (laws.transitive t) (laws.keeps t) (laws.starts t) (laws.counts t) runs a.query.now a.trains.now a.stops.now c.requires.timetable layers.new.work layers.result layers.ensures.few layers.ensures.all (layers.ensures.filled runs c.ask-usable.ensures) c.in-default.ensures.best);
+      found = (refl, nothing_found (g.P.Tariff.meaning t) (laws.connex t) (laws.transitive t) (laws.keeps t) (laws.starts t) (laws.counts t) runs a.query.now a.trains.now a.stops.now c.requires.timetable layers.new.work layers.result layers.ensures.few layers.ensures.all (layers.ensures.filled runs c.ask-usable.ensures) c.in_default.ensures.best);
       rides = refl;
     }
 
-pub write-rides-requires : goal.write-rides-requires
-write-rides-requires g c =
+pub write_rides-requires : goal.write_rides-requires
+write_rides-requires g c =
     let a = c.args in
     let t = a.tariff.now in
     let laws = g.met.P.Tariff in
-    let layers = c.fill-layers-layers in
+    let layers = c.fill_layers-layers in
     let runs = g.C.Calendar.runs a.calendar.now in
     let e = c.in-Some.end in
     let best = c.in-Some.ensures.best in
@@ -50,14 +50,14 @@ returns g c =
     let a = c.args in
     let t = a.tariff.now in
     let laws = g.met.P.Tariff in
-    let layers = c.fill-layers-layers in
+    let layers = c.fill_layers-layers in
     let runs = g.C.Calendar.runs a.calendar.now in
     let e = c.in-Some.end in
     let best = c.in-Some.ensures.best in
     let few = layers.ensures.few in
     let told = whole_told (g.P.Tariff.meaning t) (laws.connex t) (laws.transitive t) (laws.keeps t) (laws.starts t) (laws.counts t) runs a.query.now a.trains.now a.stops.now c.requires.timetable layers.new.work layers.result few layers.ensures.all (layers.ensures.filled runs c.ask-usable.ensures) e best in
-    let written = c.write-rides.ensures.written _ told in
+    let written = c.write_rides.ensures.written _ told in
     record {
-      found = finds (g.P.Tariff.meaning t) (laws.connex t) (laws.transitive t) (laws.keeps t) (laws.starts t) (laws.counts t) runs a.query.now a.trains.now a.stops.now c.requires.timetable layers.new.work layers.result few layers.ensures.all (layers.ensures.filled runs c.ask-usable.ensures) e best a.rides.now c.write-rides.new.rides written;
-      rides = rest_stands (g.P.Tariff.meaning t) (laws.connex t) (laws.transitive t) (laws.keeps t) (laws.starts t) (laws.counts t) runs a.query.now a.trains.now a.stops.now c.requires.timetable layers.new.work layers.result few layers.ensures.all (layers.ensures.filled runs c.ask-usable.ensures) e best a.rides.now c.write-rides.new.rides written;
+      found = finds (g.P.Tariff.meaning t) (laws.connex t) (laws.transitive t) (laws.keeps t) (laws.starts t) (laws.counts t) runs a.query.now a.trains.now a.stops.now c.requires.timetable layers.new.work layers.result few layers.ensures.all (layers.ensures.filled runs c.ask-usable.ensures) e best a.rides.now c.write_rides.new.rides written;
+      rides = rest_stands (g.P.Tariff.meaning t) (laws.connex t) (laws.transitive t) (laws.keeps t) (laws.starts t) (laws.counts t) runs a.query.now a.trains.now a.stops.now c.requires.timetable layers.new.work layers.result few layers.ensures.all (layers.ensures.filled runs c.ask-usable.ensures) e best a.rides.now c.write_rides.new.rides written;
     }

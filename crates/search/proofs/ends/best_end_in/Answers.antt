@@ -10,5 +10,5 @@ returns g c =
     let laws = g.met.P.Tariff in
     record {
       best = ends_of_shifts m (laws.connex a.tariff.now) (laws.transitive a.tariff.now) (λ (s : Shift). end_at a.size a.work.now a.layer s a.row)
-          _ _ _ _ _ c.end-at-before.ensures c.end-at-same.ensures c.end-at-after.ensures c.cheaper-end.ensures c.cheaper-end-2.ensures;
+          _ _ _ _ _ c.end_at-before.ensures c.end_at-same.ensures c.end_at-after.ensures c.cheaper_end.ensures c.cheaper_end-2.ensures;
     }

@@ -5,8 +5,8 @@ use Rattle.search.proofs.FillingLayers.{filled_layer}
 use Rattle.search.proofs.Layering.{next_layer, layers_below}
 use Rattle.search.proofs.layers.fill_layers.Goals as goal
 
-pub fill-layer-requires : goal.fill-layer-requires
-fill-layer-requires g c =
+pub fill_layer-requires : goal.fill_layer-requires
+fill_layer-requires g c =
     let a = c.args in
     let more = layers_below (length a.stops.now) (c.loop-layer.layer + 1) (a.query.now.changes + 1) (omega arith) in
     record {
@@ -20,15 +20,15 @@ fill-layer-requires g c =
 pub loop-layer-init : goal.loop-layer-init
 loop-layer-init g c = (λ runs asked k n s i lk ln li. absurd (omega arith), λ h. absurd (omega arith))
 
-pub returns-then-not-fill-layer : goal.returns-then-not-fill-layer
-returns-then-not-fill-layer g c =
+pub returns-then-not-fill_layer : goal.returns-then-not-fill_layer
+returns-then-not-fill_layer g c =
     let a = c.args in
     let l = c.loop-layer in
     record {
       few = omega arith;
-      all = inr (l.layer, add-one l.layer, c.if-not-fill-layer.ensures.nothing refl);
+      all = inr (l.layer, add-one l.layer, c.if-not-fill_layer.ensures.nothing refl);
       filled = λ runs asked.
-          filled_layer (g.P.Tariff.meaning a.tariff.now) a.query.now a.trains.now a.stops.now c.requires.timetable.ordered l.layer runs l.work _ (λ z h. c.if-not-fill-layer.ensures.unchanged z (omega arith)) (c.if-not-fill-layer.ensures.settled runs asked (l.invariant.0 runs asked)) (l.invariant.0 runs asked);
+          filled_layer (g.P.Tariff.meaning a.tariff.now) a.query.now a.trains.now a.stops.now c.requires.timetable.ordered l.layer runs l.work _ (λ z h. c.if-not-fill_layer.ensures.unchanged z (omega arith)) (c.if-not-fill_layer.ensures.settled runs asked (l.invariant.0 runs asked)) (l.invariant.0 runs asked);
     }
 
 pub of-arrivals-requires : goal.of-arrivals-requires
@@ -43,10 +43,10 @@ pub loop-layer-preserved : goal.loop-layer-preserved
 loop-layer-preserved g c =
     let a = c.args in
     let l = c.loop-layer in
-    let work = c.fill-layer.new.work in
+    let work = c.fill_layer.new.work in
     let e : l.layer ≡ l.layer + 1 - 1 = omega arith in (
       λ runs asked.
-          filled_layer (g.P.Tariff.meaning a.tariff.now) a.query.now a.trains.now a.stops.now c.requires.timetable.ordered l.layer runs l.work work (λ z h. c.fill-layer.ensures.unchanged z (omega arith)) (c.fill-layer.ensures.settled runs asked (l.invariant.0 runs asked)) (l.invariant.0 runs asked),
+          filled_layer (g.P.Tariff.meaning a.tariff.now) a.query.now a.trains.now a.stops.now c.requires.timetable.ordered l.layer runs l.work work (λ z h. c.fill_layer.ensures.unchanged z (omega arith)) (c.fill_layer.ensures.settled runs asked (l.invariant.0 runs asked)) (l.invariant.0 runs asked),
       λ h. subst (λ (k : ℕ). Linked a.stops.now (label_in (length a.stops.now) work k) c.of-arrivals.result) e c.of-arrivals.ensures,
     )
 

@@ -7,8 +7,8 @@ use Rattle.search.proofs.RowsAreTrains.{first_first, next_first, last_ends, none
 use Rattle.search.proofs.Unchanged.{linked_same}
 use Rattle.search.proofs.layers.fill_shift.Goals as goal
 
-pub fill-run-new-requires : goal.fill-run-new-requires
-fill-run-new-requires g c =
+pub fill_run-new-requires : goal.fill_run-new-requires
+fill_run-new-requires g c =
     let a = c.args in
     let so_far = c.loop-n.invariant.1 in
     record {
@@ -43,7 +43,7 @@ loop-n-preserved g c =
     let MayRun = RunAsked a.query.now train a.shift (get_or a.usable.now l.n false) in
     let before = subst (λ (r : ℕ). Fills m a.query.now a.trains.now a.stops.now a.layer May a.work.now l.work (place size a.shift 0) (place size a.shift r) l.found) (sym here) l.invariant.1 in (
       train.first + train.count,
-      fills_then m a.query.now a.trains.now a.stops.now ok a.layer May MayRun a.work.now l.work c.fill-run-new.new.work (place size a.shift 0) (place size a.shift train.first) (place size a.shift (train.first + train.count)) l.found c.fill-run-new.result before c.fill-run-new.ensures (λ runs may. may l.n c.loop-n-test.true) (omega arith),
+      fills_then m a.query.now a.trains.now a.stops.now ok a.layer May MayRun a.work.now l.work c.fill_run-new.new.work (place size a.shift 0) (place size a.shift train.first) (place size a.shift (train.first + train.count)) l.found c.fill_run-new.result before c.fill_run-new.ensures (λ runs may. may l.n c.loop-n-test.true) (omega arith),
       λ h. ap (λ n. (train_row n a.trains.now).first) (add-one l.n) ∙ next_first a.trains.now a.stops.now ok l.n (omega arith),
       λ h. last_ends a.trains.now a.stops.now ok l.n (omega arith),
     )

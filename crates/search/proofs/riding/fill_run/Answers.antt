@@ -10,13 +10,13 @@ use Rattle.search.proofs.Unchanged.{linked_same}
 use Rattle.search.proofs.riding.fill_run.Goals as goal
 use Rattle.search.proofs.riding.fill_run.Goals.{then-i-count, else-i-count}
 
-pub overflow-add-at : goal.overflow-add-at
-overflow-add-at g c =
+pub overflow_add-at : goal.overflow_add-at
+overflow_add-at g c =
     let a = c.args in
     let size = length a.stops.now in
     let most = layer_most size (a.layer + 1) (omega arith) c.requires.timetable.ordered.few_stops in
     let f = fits a.trains.now a.stops.now c.requires.timetable.ordered a.n c.requires.in_force in
-    omega (arith, c.part-at.ensures, part_within size a.layer a.shift)
+    omega (arith, c.part_at.ensures, part_within size a.layer a.shift)
 
 pub loop-i-init : goal.loop-i-init
 loop-i-init g c ok h =
@@ -25,8 +25,8 @@ loop-i-init g c ok h =
     let laws = g.met.P.Tariff in
     filled_none (g.P.Tariff.meaning t) a.query.now a.trains.now a.stops.now ok a.layer a.n a.shift a.usable h (laws.connex t) (laws.transitive t) (laws.keeps t) (laws.starts t) (laws.counts t) a.work.now
 
-pub unless-beaten-aboard-requires : goal.unless-beaten-aboard-requires
-unless-beaten-aboard-requires g c =
+pub unless_beaten-aboard-requires : goal.unless_beaten-aboard-requires
+unless_beaten-aboard-requires g c =
     let a = c.args in
     let size = length a.stops.now in
     let f = fits a.trains.now a.stops.now c.requires.timetable.ordered a.n c.requires.in_force in
@@ -39,15 +39,15 @@ unless-beaten-aboard-requires g c =
       placed = omega (arith, place_below a.shift size row (omega arith), ap (λ x. x * size) c.number.ensures.is);
     }
 
-pub overflow-add-i : goal.overflow-add-i
-overflow-add-i g c = omega arith
+pub overflow_add-i : goal.overflow_add-i
+overflow_add-i g c = omega arith
 
-pub put-label-requires : goal.put-label-requires
-put-label-requires g c =
+pub put_label-requires : goal.put_label-requires
+put_label-requires g c =
     let a = c.args in
     let size = length a.stops.now in
     let f = fits a.trains.now a.stops.now c.requires.timetable.ordered a.n c.requires.in_force in
-    record { within = omega (arith, c.part-at.ensures, record_below size a.layer a.shift (row_of a.trains.now a.n c.loop-i.i) (omega arith)) }
+    record { within = omega (arith, c.part_at.ensures, record_below size a.layer a.shift (row_of a.trains.now a.n c.loop-i.i) (omega arith)) }
 
 pub boarding-boarded-requires : goal.boarding-boarded-requires
 boarding-boarded-requires g c =
@@ -63,15 +63,15 @@ boarding-boarded-requires g c =
     let more : layer_at size a.layer ≤ layer_at size (a.layer + 1) = layers_below size a.layer (a.layer + 1) (omega arith) in
     let below = record_below size a.layer a.shift (row_of a.trains.now a.n l.i) (omega arith) in
     let room : part_at size a.layer a.shift + n_row.first + l.i < length l.work = omega (arith, below) in
-    let kept = c.unless-beaten-aboard.ensures ∙ ap (λ x. unless_beaten m size l.work x a.layer l.aboard) (ap (λ x. x * size + n_row.first + l.i) c.number.ensures.is ∙ add_assoc (number a.shift * size) n_row.first l.i) in
-    let next = c.put-label.ensures ∙ ap (λ x. set l.work (x + n_row.first + l.i) (record_of c.unless-beaten-aboard.result)) c.part-at.ensures in
-    let unchanged = next_unchanged m a.query.now a.trains.now a.stops.now ok a.layer a.n a.shift a.usable c.requires.in_force (laws.connex t) (laws.transitive t) (laws.keeps t) (laws.starts t) (laws.counts t) a.work.now l.work l.i l.found l.aboard c.unless-beaten-aboard.result (l.invariant ok c.requires.in_force) c.loop-i-test.true room kept c.put-label.new.work next in
+    let kept = c.unless_beaten-aboard.ensures ∙ ap (λ x. unless_beaten m size l.work x a.layer l.aboard) (ap (λ x. x * size + n_row.first + l.i) c.number.ensures.is ∙ add_assoc (number a.shift * size) n_row.first l.i) in
+    let next = c.put_label.ensures ∙ ap (λ x. set l.work (x + n_row.first + l.i) (record_of c.unless_beaten-aboard.result)) c.part_at.ensures in
+    let unchanged = next_unchanged m a.query.now a.trains.now a.stops.now ok a.layer a.n a.shift a.usable c.requires.in_force (laws.connex t) (laws.transitive t) (laws.keeps t) (laws.starts t) (laws.counts t) a.work.now l.work l.i l.found l.aboard c.unless_beaten-aboard.result (l.invariant ok c.requires.in_force) c.loop-i-test.true room kept c.put_label.new.work next in
     record {
       askable = c.requires.askable;
       timetable = ok;
       shallow = c.requires.shallow;
       within = omega (arith, more);
-      linked = λ later. linked_same a.stops.now a.layer (a.layer - 1) a.work.now c.put-label.new.work a.arrivals.now (omega arith) (λ z h. unchanged z (omega arith)) (c.requires.linked later);
+      linked = λ later. linked_same a.stops.now a.layer (a.layer - 1) a.work.now c.put_label.new.work a.arrivals.now (omega arith) (λ z h. unchanged z (omega arith)) (c.requires.linked later);
       in_force = c.requires.in_force;
       on_the_train = c.loop-i-test.true;
       short = omega arith;
@@ -99,12 +99,12 @@ loop-i-preserved g c ok h =
     let f = fits a.trains.now a.stops.now ok.ordered a.n h in
     let below = record_below size a.layer a.shift (row_of a.trains.now a.n l.i) (omega arith) in
     let room : part_at size a.layer a.shift + n_row.first + l.i < length l.work = omega (arith, below) in
-    let kept = c.unless-beaten-aboard.ensures ∙ ap (λ x. unless_beaten m size l.work x a.layer l.aboard) (ap (λ x. x * size + n_row.first + l.i) c.number.ensures.is ∙ add_assoc (number a.shift * size) n_row.first l.i) in
-    let next = c.put-label.ensures ∙ ap (λ x. set l.work (x + n_row.first + l.i) (record_of c.unless-beaten-aboard.result)) c.part-at.ensures in
-    filled_more m a.query.now a.trains.now a.stops.now ok a.layer a.n a.shift a.usable h (laws.connex t) (laws.transitive t) (laws.keeps t) (laws.starts t) (laws.counts t) a.work.now l.work l.i l.found l.aboard c.unless-beaten-aboard.result (l.invariant ok h) c.loop-i-test.true room kept c.put-label.new.work next (l.found || c.is-some-found.result) c.if-i-count.aboard (ap (λ b. l.found || b) c.is-some-found.ensures)
+    let kept = c.unless_beaten-aboard.ensures ∙ ap (λ x. unless_beaten m size l.work x a.layer l.aboard) (ap (λ x. x * size + n_row.first + l.i) c.number.ensures.is ∙ add_assoc (number a.shift * size) n_row.first l.i) in
+    let next = c.put_label.ensures ∙ ap (λ x. set l.work (x + n_row.first + l.i) (record_of c.unless_beaten-aboard.result)) c.part_at.ensures in
+    filled_more m a.query.now a.trains.now a.stops.now ok a.layer a.n a.shift a.usable h (laws.connex t) (laws.transitive t) (laws.keeps t) (laws.starts t) (laws.counts t) a.work.now l.work l.i l.found l.aboard c.unless_beaten-aboard.result (l.invariant ok h) c.loop-i-test.true room kept c.put_label.new.work next (l.found || c.is_some-found.result) c.if-i-count.aboard (ap (λ b. l.found || b) c.is_some-found.ensures)
     (elim c.if-i-count.branch [
       | then-i-count w ↦
-          comes_next m a.query.now a.trains.now a.stops.now ok a.layer a.n a.shift a.usable h (laws.connex t) (laws.transitive t) (laws.keeps t) (laws.starts t) (laws.counts t) a.work.now l.work l.i l.found l.aboard c.unless-beaten-aboard.result (l.invariant ok h) c.loop-i-test.true room kept c.put-label.new.work next w.boarding-boarded.result c.if-i-count.aboard (omega (arith, w.if-i-count.true)) w.boarding-boarded.ensures.settles (w.aboard-is ∙ w.ride-on-aboard.ensures)
+          comes_next m a.query.now a.trains.now a.stops.now ok a.layer a.n a.shift a.usable h (laws.connex t) (laws.transitive t) (laws.keeps t) (laws.starts t) (laws.counts t) a.work.now l.work l.i l.found l.aboard c.unless_beaten-aboard.result (l.invariant ok h) c.loop-i-test.true room kept c.put_label.new.work next w.boarding-boarded.result c.if-i-count.aboard (omega (arith, w.if-i-count.true)) w.boarding-boarded.ensures.settles (w.aboard-is ∙ w.ride_on-aboard.ensures)
       | else-i-count w ↦ λ runs may filled more. absurd (omega (arith, w.if-i-count.false))
     ])
 

@@ -6,8 +6,8 @@ use Rattle.search.proofs.chains.Arrivals.of.Goals as goal
 
 pub returns : goal.returns
 returns g c DayBefore =
-    subst (λ (x : ℕ). Chained c.args.stops.now (λ j. label_at c.args.work.now (x + j)) c.chained.result.heads c.chained.result.nexts) c.part-at.ensures c.chained.ensures
+    subst (λ (x : ℕ). Chained c.args.stops.now (λ j. label_at c.args.work.now (x + j)) c.chained.result.heads c.chained.result.nexts) c.part_at.ensures c.chained.ensures
 returns g c SameDay =
-    subst (λ (x : ℕ). Chained c.args.stops.now (λ j. label_at c.args.work.now (x + j)) c.chained-2.result.heads c.chained-2.result.nexts) c.part-at-2.ensures c.chained-2.ensures
+    subst (λ (x : ℕ). Chained c.args.stops.now (λ j. label_at c.args.work.now (x + j)) c.chained-2.result.heads c.chained-2.result.nexts) c.part_at-2.ensures c.chained-2.ensures
 returns g c DayAfter =
-    subst (λ (x : ℕ). Chained c.args.stops.now (λ j. label_at c.args.work.now (x + j)) c.chained-3.result.heads c.chained-3.result.nexts) c.part-at-3.ensures c.chained-3.ensures
+    subst (λ (x : ℕ). Chained c.args.stops.now (λ j. label_at c.args.work.now (x + j)) c.chained-3.result.heads c.chained-3.result.nexts) c.part_at-3.ensures c.chained-3.ensures
