@@ -3,8 +3,8 @@ use Rattle.desk.proofs.cut.cut_at.Goals as goal
 
 pub returns : goal.returns
 returns c =
-    let counted = c.count-ahead-ahead.ensures in
+    let counted = c.count_ahead-ahead.ensures in
     record {
-      front = front_is c.args.mark c.args.bytes.now c.count-ahead-ahead.result c.min-next.result counted.value counted.within;
-      behind = behind_is c.args.mark c.args.bytes.now c.count-ahead-ahead.result c.min-next.result counted.value counted.within c.min-next.ensures;
+      front = front_is c.args.mark c.args.bytes.now c.count_ahead-ahead.result c.min-next.result counted.value counted.within;
+      behind = behind_is c.args.mark c.args.bytes.now c.count_ahead-ahead.result c.min-next.result counted.value counted.within c.min-next.ensures;
     }

@@ -1,5 +1,5 @@
 use Rattle.std.proofs.Common.{ℕ, ◌+◌, ◌<◌, ◌≤◌, List, length, get_or, drop, sym, ◌∙◌, arith, rules}
-use Rattle.desk.proofs.numbers.number_of.Goals.{in-default, in-default·2}
+use Rattle.desk.proofs.numbers.number_of.Goals.{in_default, in_default-2}
 use Rattle.std.proofs.lemmas.List.{at_drop_more, at_drop_all}
 use Rattle.desk.proofs.Digits.{rest_number, no_digit, a_digit, number_start, number_done, number_empty, number_zero_ahead}
 use Rattle.desk.proofs.numbers.number_of.Goals as goal
@@ -7,29 +7,29 @@ use Rattle.desk.proofs.numbers.number_of.Goals as goal
 pub returns-in-empty : goal.returns-in-empty
 returns-in-empty c = number_empty (c.args.most + 1) c.args.digits.now (search rules)
 
-pub returns-in-empty·2 : goal.returns-in-empty·2
-returns-in-empty·2 c = number_zero_ahead (c.args.most + 1) c.args.digits.now (search rules) (search rules)
+pub returns-in-empty-2 : goal.returns-in-empty-2
+returns-in-empty-2 c = number_zero_ahead (c.args.most + 1) c.args.digits.now (search rules) (search rules)
 
 pub loop-byte-init : goal.loop-byte-init
 loop-byte-init c =
     let F : List ℕ = c.args.digits.now in
     elim c.if-digits-lt2.branch [
-      | in-default w ↦ (number_start (c.args.most + 1) F (search rules) (search rules), omega arith)
-      | in-default·2 w ↦ (number_start (c.args.most + 1) F (search rules) (search rules), omega arith)
+      | in_default w ↦ (number_start (c.args.most + 1) F (search rules) (search rules), omega arith)
+      | in_default-2 w ↦ (number_start (c.args.most + 1) F (search rules) (search rules), omega arith)
     ]
 
-pub returns-in-err-n : goal.returns-in-err-n
-returns-in-err-n c =
+pub returns-in_err-n : goal.returns-in_err-n
+returns-in_err-n c =
     let i = c.loop-byte.byte-index in
     let h : i < length c.args.digits.now = search rules in
-    c.from-residual.ensures ∙ no_digit (c.args.most + 1) c.loop-byte.n (get_or c.args.digits.now i 0) (drop (i + 1) c.args.digits.now) c.in-err-n.ensures
+    c.from_residual.ensures ∙ no_digit (c.args.most + 1) c.loop-byte.n (get_or c.args.digits.now i 0) (drop (i + 1) c.args.digits.now) c.in_err-n.ensures
     ∙ sym (at_drop_more (rest_number (c.args.most + 1) c.loop-byte.n) c.args.digits.now i 0 h) ∙ c.loop-byte.invariant.0
 
 pub loop-byte-preserved : goal.loop-byte-preserved
 loop-byte-preserved c =
     let i = c.loop-byte.byte-index in
     let h : i < length c.args.digits.now = search rules in
-    let p = a_digit (c.args.most + 1) c.loop-byte.n (get_or c.args.digits.now i 0) c.in-ok-n.n (drop (i + 1) c.args.digits.now) c.in-ok-n.ensures in
+    let p = a_digit (c.args.most + 1) c.loop-byte.n (get_or c.args.digits.now i 0) c.in_ok-n.n (drop (i + 1) c.args.digits.now) c.in_ok-n.ensures in
     (p.0 ∙ sym (at_drop_more (rest_number (c.args.most + 1) c.loop-byte.n) c.args.digits.now i 0 h) ∙ c.loop-byte.invariant.0, omega (arith, p.1))
 
 pub returns : goal.returns

@@ -9,12 +9,12 @@ use Rattle.desk.proofs.said.train_said.Goals as goal
 
 pub returns : goal.returns
 returns c =
-    let words = c.cut-at-words.ensures in
-    let more = c.cut-at-rest.ensures in
+    let words = c.cut_at-words.ensures in
+    let more = c.cut_at-rest.ensures in
     let n = c.in-Some.ensures ∙ ap (number 65536) words.front in
-    let code = c.in-Some-number-of.ensures ∙ ap (number 256) (more.front ∙ ap (front 32) words.behind) in
-    let features = c.in-Some-number-of-2.ensures ∙ ap (number 65536) (more.behind ∙ ap (behind 32) words.behind) in
+    let code = c.in-Some-number_of.ensures ∙ ap (number 256) (more.front ∙ ap (front 32) words.behind) in
+    let features = c.in-Some-number_of-2.ensures ∙ ap (number 65536) (more.behind ∙ ap (behind 32) words.behind) in
     three _ _ _ _ _ _ _ _ _ (λ x y z. Ok (lines.Book (calls.Begin x y z))) n code features
 
-pub overflow-cast-result : goal.overflow-cast-result
-overflow-cast-result c = omega (arith, number_below 256 c.in-Some-number-of.code c.cut-at-rest.result.front.now c.in-Some-number-of.ensures)
+pub overflow_cast-result : goal.overflow_cast-result
+overflow_cast-result c = omega (arith, number_below 256 c.in-Some-number_of.code c.cut_at-rest.result.front.now c.in-Some-number_of.ensures)
