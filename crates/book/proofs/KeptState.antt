@@ -5,7 +5,7 @@ use Rattle.book.specs.declared.rows.TrainRow.{TrainRow}
 use Rattle.book.specs.declared.state.Book.{Book}
 use Rattle.book.specs.declared.state.Entry.{Entry}
 use Rattle.book.specs.Trains.{listed, open_train, holds, entry_holds}
-use Rattle.book.specs.Answers.{new_book, stop_rows}
+use Rattle.book.specs.Answers.{new_book}
 use Rattle.book.specs.Refusals.{begin_fault, next_fault, finish_fault, withdraw_fault, begin_refusal, stop_refusal, finish_refusal, withdraw_refusal}
 use Rattle.book.proofs.Held.{hold_from}
 use Rattle.book.specs.Histories.{State, Closed, Open}

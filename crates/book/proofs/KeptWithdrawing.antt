@@ -6,7 +6,7 @@ use Rattle.book.specs.declared.rows.TrainRow.{TrainRow}
 use Rattle.book.specs.declared.state.Book.{Book}
 use Rattle.book.specs.declared.refusal.Refusal.{Refusal}
 use Rattle.book.specs.Trains.{Train, all_sound, gapless, trains_in, train_at, listed, holds}
-use Rattle.book.specs.Answers.{unless, refused_or, place, train_row, forward, closed_up, stop_rows, withdraw_answer, withdraw_trains, withdraw_stops}
+use Rattle.book.specs.Answers.{unless, refused_or, place, train_row, forward, closed_up, withdraw_answer, withdraw_trains, withdraw_stops}
 use Rattle.book.specs.Refusals.{withdraw_refusal}
 use Rattle.book.proofs.Held.{hold_from}
 use Rattle.book.proofs.Pushed.{gapless_append}
@@ -16,7 +16,7 @@ use Rattle.book.proofs.Walk.{no_row}
 use Rattle.book.proofs.Found.{Found, found_place}
 use Rattle.book.proofs.Removed.{length_closed_up, take_closed_up, before_closed, after_closed, gapless_parts, without_is, all_sound_without}
 use Rattle.book.specs.Histories.{withdrawn_to}
-use Rattle.book.specs.PlainList.{stops, withdraws, InForce, none_open, without}
+use Rattle.book.specs.PlainList.{withdraws, InForce, none_open, without}
 use Rattle.book.proofs.KeptState.{Kept, next, withdraw_same}
 
 -- ---- withdraw

@@ -10,6 +10,8 @@
 //                    \__ 11 ___/ \_ 12 _/
 //
 // The tables may hold anything: each call looks them over and refuses what does not hold.
+#![tactic(auto)]
+
 pub mod entering;
 mod example;
 pub mod histories;

@@ -6,6 +6,8 @@
 //     calendar.runs_on(31, 101)                 // no: it is an exception now
 //
 // A day is a number from 0 to 65,535; day 0 is Saturday, 1 January 2000.
+#![tactic(auto)]
+
 ghost use Rattle.std.specs.Prelude.{◌≡◌};
 ghost use Rattle.calendar.specs.Pairs.{Pairs};
 

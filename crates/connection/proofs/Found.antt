@@ -1,5 +1,5 @@
 -- The cheapest label at the destination, where labels settle every stop of every run, is the price of a cheapest connection.
-use Rattle.std.proofs.Common.{◌≡◌, ℕ, zero, suc, ◌+◌, ◌<◌, ◌≤◌, Bool, true, false, T, ◌⊎◌, List, [], ◌∷◌, ◌++◌, length, Some, None, Option, sym, refl, subst, inl, inr, arith}
+use Rattle.std.proofs.Common.{◌≡◌, ℕ, zero, suc, ◌+◌, ◌<◌, ◌≤◌, Bool, true, false, T, ◌⊎◌, List, [], ◌∷◌, ◌++◌, length, Some, None, Option, refl, subst, inl, inr, arith}
 use Rattle.std.proofs.lemmas.Bool.{cases_lt}
 use Rattle.tariff.specs.Laws.{Connex, Transitive, Keeps, Starts, Counts}
 use Rattle.tariff.specs.Meaning.{Meaning}
@@ -11,9 +11,9 @@ use Rattle.connection.specs.Connections.{Connection}
 use Rattle.connection.specs.Labels.{boardable, ends}
 use Rattle.connection.specs.Prices.{price}
 use Rattle.connection.specs.Rides.{stops_at}
-use Rattle.connection.specs.Settled.{Beats, Settles, Sooner, SettlesBoarding, SettlesArrival}
+use Rattle.connection.specs.Settled.{Beats, Sooner, SettlesBoarding, SettlesArrival}
 use Rattle.connection.specs.Underway.{ride, Aboard}
-use Rattle.connection.specs.Ways.{Arrives, Reached}
+use Rattle.connection.specs.Ways.{Arrives}
 use Rattle.connection.specs.declared.label.Label.{Label}
 use Rattle.connection.specs.declared.query.Query.{Query}
 use Rattle.connection.specs.declared.ride.Ride.{Ride}
@@ -22,7 +22,7 @@ use Rattle.connection.proofs.ConnectionsAreWays.{connection_is_way}
 use Rattle.connection.proofs.Onward.{settles_first_stop, settles_next_stop, settles_change}
 use Rattle.connection.proofs.Settling.{settles_none}
 use Rattle.connection.proofs.Times.{Punctual}
-use Rattle.connection.proofs.WaysAreConnections.{ride_list, gets_off}
+use Rattle.connection.proofs.WaysAreConnections.{gets_off}
 
 module _ {A : Type 0} (m : Meaning A) (connex : Connex m) (transitive : Transitive m) (keeps : Keeps m) (none : Starts m) (counts : Counts m) (trains : List Train) (on_time : (n : ℕ) → Punctual (stops_at trains n)) (runs : Pairs) (q : Query) where
   -- ---- after k changes every way is beaten by one with fewer changes: the layer reaches nothing new

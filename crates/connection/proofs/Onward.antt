@@ -1,5 +1,5 @@
 -- A label settles the ways to a stop where labels settle the ways to the stop before it and to where one may change from.
-use Rattle.std.proofs.Common.{◌≡◌, ℕ, zero, suc, ◌+◌, ◌<◌, ◌≤◌, Bool, true, false, T, ◌⊎◌, List, [], ◌∷◌, ◌++◌, length, Some, None, Option, sym, refl, ap, ◌∙◌, subst, inl, inr, arith}
+use Rattle.std.proofs.Common.{◌≡◌, ℕ, suc, ◌<◌, Bool, true, false, T, ◌⊎◌, List, [], ◌∷◌, ◌++◌, length, Some, None, Option, sym, refl, ap, subst, inl, inr, arith}
 use Rattle.tariff.specs.Laws.{Connex, Transitive, Keeps, Starts, Counts}
 use Rattle.tariff.specs.Meaning.{Meaning}
 use Rattle.book.specs.Trains.{Train}
@@ -10,15 +10,15 @@ use Rattle.connection.specs.Prices.{Stretch, as_step}
 use Rattle.connection.specs.Rides.{stops_at}
 use Rattle.connection.specs.Settled.{extended, no_dearer, IsOne, Beats, Settles, Sooner, TellsBoarded, TellsAboard, SettlesBoarding, SettlesArrival}
 use Rattle.connection.specs.Underway.{ride}
-use Rattle.connection.specs.Ways.{Image, Either, Best, Along, Boards, Arrives}
+use Rattle.connection.specs.Ways.{Image, Either, Best, Boards, Arrives}
 use Rattle.connection.specs.declared.label.Label.{Label}
 use Rattle.connection.specs.declared.query.Query.{Query}
 use Rattle.connection.specs.declared.ride.Ride.{Ride}
 use Rattle.connection.specs.declared.ride.Shift.{Shift}
 use Rattle.connection.proofs.FewSteps.{few_at, few_from, leave_few, boards_few, arrives_few}
-use Rattle.connection.proofs.Settling.{settles_none, settles_same, settles_given, settles_extended, settles_only, settles_cheaper, settles_dropped}
+use Rattle.connection.proofs.Settling.{settles_none, settles_same, settles_extended, settles_only, settles_cheaper, settles_dropped}
 use Rattle.connection.proofs.Times.{Punctual}
-use Rattle.connection.proofs.WaysAreConnections.{rides_on, stays_on, begins, change_to, ride_list}
+use Rattle.connection.proofs.WaysAreConnections.{rides_on, stays_on, begins, change_to}
 
 module _ {A : Type 0} (m : Meaning A) (connex : Connex m) (transitive : Transitive m) (keeps : Keeps m) (none : Starts m) (counts : Counts m) (trains : List Train) (on_time : (n : ℕ) → Punctual (stops_at trains n)) (runs : Pairs) (q : Query) where
   -- about to leave the stop i: just boarded there, or come there on board

@@ -1,11 +1,11 @@
 -- How a label that settles some ways comes from labels that settle others.
-use Rattle.std.proofs.Common.{◌≡◌, ℕ, ◌<◌, Bool, true, false, cond, ◌||◌, T, ◌⊎◌, Some, None, Option, sym, refl, ◌∙◌, subst, inl, inr}
+use Rattle.std.proofs.Common.{◌≡◌, ℕ, Bool, true, false, cond, ◌||◌, T, ◌⊎◌, Some, None, Option, sym, refl, ◌∙◌, subst, inl, inr}
 use Rattle.tariff.specs.Laws.{Connex, Transitive}
 use Rattle.tariff.specs.Meaning.{Meaning}
 use Rattle.connection.specs.Choosing.{mapped, only_when, cheaper}
 use Rattle.connection.specs.Labels.{with}
 use Rattle.connection.specs.Prices.{Stretch}
-use Rattle.connection.specs.Settled.{extended, no_dearer, IsOne, Beats, Settles, Sooner}
+use Rattle.connection.specs.Settled.{extended, no_dearer, Beats, Settles, Sooner}
 use Rattle.connection.specs.Ways.{Image, Either, Given, Only}
 use Rattle.connection.specs.declared.label.Label.{Label}
 use Rattle.connection.proofs.Best.{refl_from}

@@ -10,6 +10,8 @@
 //     finish                  the train is in the book
 //     abandon                 the train is dropped
 //     withdraw 11             the train is taken out
+#![tactic(auto)]
+
 pub mod asked;
 pub mod cut;
 pub mod filling;

@@ -1,6 +1,8 @@
 // Prices a journey, lists running days and fills a timetable book, from lines of standard input (see crate `desk`).
 //
 // The one argument is the penalty in minutes for each change under the tariff by minutes; without it, 5.
+#![tactic(auto)]
+
 mod queries;
 mod report;
 

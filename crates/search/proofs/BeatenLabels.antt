@@ -1,9 +1,9 @@
 -- A label is beaten where a layer before it holds one that costs no more.
-use Rattle.std.proofs.Common.{◌≡◌, ℕ, zero, suc, ◌+◌, ◌<◌, ◌≤◌, Bool, true, false, cond, ◌||◌, T, ◌⊎◌, List, Some, None, Option, sym, refl, ap, ◌∙◌, subst, ap₂, inl, inr, add-one, arith}
+use Rattle.std.proofs.Common.{◌≡◌, ℕ, zero, suc, ◌+◌, ◌<◌, ◌≤◌, Bool, true, false, ◌||◌, T, ◌⊎◌, List, Some, None, Option, sym, refl, ap, ◌∙◌, subst, ap₂, inl, inr, add-one, arith}
 use Rattle.std.proofs.lemmas.Bool.{cases_lt}
 use Rattle.tariff.specs.Meaning.{Meaning}
 use Rattle.connection.specs.declared.label.Label.{Label}
-use Rattle.search.specs.Working.{layer_at, label_at, costs_no_more, beaten, unless_beaten}
+use Rattle.search.specs.Working.{layer_at, label_at, costs_no_more, beaten}
 use Rattle.search.specs.declared.record.WorkRecord.{WorkRecord}
 
 or_true : (a b : Bool) → b ≡ true → (a || b) ≡ true

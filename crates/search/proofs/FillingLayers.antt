@@ -1,8 +1,7 @@
 -- A layer that is filled run by run settles its stops.
-use Rattle.std.proofs.Common.{◌≡◌, ℕ, zero, suc, ◌+◌, ◌-◌, ◌*◌, ◌<◌, ◌≤◌, Bool, true, false, ◌||◌, ◌⊎◌, List, length, get_or, Some, None, Option, sym, refl, ap, ◌∙◌, subst, inl, inr, add_assoc, add-one, arith}
+use Rattle.std.proofs.Common.{◌≡◌, ℕ, ◌+◌, ◌*◌, ◌<◌, ◌≤◌, Bool, false, ◌||◌, ◌⊎◌, List, length, None, Option, sym, refl, ap, subst, inl, inr, add_assoc, arith}
 use Rattle.std.proofs.lemmas.Bool.{cases_lt}
 use Rattle.tariff.specs.Meaning.{Meaning}
-use Rattle.book.specs.Answers.{train_row}
 use Rattle.book.specs.declared.rows.StopRow.{StopRow}
 use Rattle.book.specs.declared.rows.TrainRow.{TrainRow}
 use Rattle.calendar.specs.Pairs.{Pairs}
@@ -15,7 +14,6 @@ use Rattle.search.specs.Records.{label_of}
 use Rattle.search.specs.Working.{number, place, layer_at, part_at, label_in}
 use Rattle.search.specs.declared.record.WorkRecord.{WorkRecord}
 use Rattle.search.proofs.FillingRuns.{or_none}
-use Rattle.search.proofs.Layering.{next_layer}
 use Rattle.search.proofs.RowsAreTrains.{fits, place_below}
 use Rattle.search.proofs.Unchanged.{unchanged_sym, unchanged_then, holds_same, filled_same}
 

@@ -1,7 +1,6 @@
 -- What the layers before a layer tell is the same in two tables that agree on them.
-use Rattle.std.proofs.Common.{◌≡◌, ℕ, zero, suc, ◌+◌, ◌-◌, ◌*◌, ◌<◌, ◌≤◌, true, List, [], ◌∷◌, ◌++◌, length, get_or, is_some, Option, sym, refl, ap, ◌∙◌, subst, add_assoc, arith}
+use Rattle.std.proofs.Common.{◌≡◌, ℕ, zero, suc, ◌+◌, ◌*◌, ◌<◌, ◌≤◌, List, [], ◌∷◌, ◌++◌, length, get_or, is_some, Option, sym, ap, ◌∙◌, subst, add_assoc, arith}
 use Rattle.tariff.specs.Meaning.{Meaning}
-use Rattle.book.specs.Answers.{train_row}
 use Rattle.book.specs.Rules.{stop_at}
 use Rattle.book.specs.Trains.{trains_in}
 use Rattle.book.specs.declared.rows.StopRow.{StopRow}
@@ -17,7 +16,7 @@ use Rattle.connection.proofs.Settling.{settles_same}
 use Rattle.search.specs.Chains.{Link, Chained, chain_of, Linked}
 use Rattle.search.specs.Layers.{InOrder, row_of, Spot, Trail, Holds, Filled, UnchangedBelow}
 use Rattle.search.specs.Records.{blank, label_of}
-use Rattle.search.specs.Working.{number, place, layer_at, part_at, label_in}
+use Rattle.search.specs.Working.{number, layer_at, part_at, label_in}
 use Rattle.search.specs.declared.chains.Arrivals.{Arrivals}
 use Rattle.search.specs.declared.record.WorkRecord.{WorkRecord}
 use Rattle.search.proofs.Layering.{next_layer, layers_below}

@@ -11,7 +11,7 @@ use Rattle.book.specs.declared.rows.TrainRow.{TrainRow}
 use Rattle.calendar.specs.Pairs.{Pairs}
 use Rattle.connection.specs.Choosing.{only_when}
 use Rattle.connection.specs.Clock.{midnight, ready}
-use Rattle.connection.specs.Labels.{goes, boardable, starts, meets, with}
+use Rattle.connection.specs.Labels.{goes, boardable, with}
 use Rattle.connection.specs.Prices.{stretch}
 use Rattle.connection.specs.Rides.{can_catch, may_board, may_alight, does_run, offers, arrival, departure, train_in_row, stops_at, stop_of, run_leaves, run_reaches}
 use Rattle.connection.specs.Settled.{no_dearer, SettlesBoarding, SettlesArrival}
@@ -26,7 +26,7 @@ use Rattle.connection.proofs.Onward.{settles_start, Changed, settles_change}
 use Rattle.connection.proofs.Settling.{settles_none}
 use Rattle.connection.proofs.Tests.{both_left, both_right, both_from, is_true, eq→eqb}
 use Rattle.connection.proofs.Times.{Punctual, on_time}
-use Rattle.search.specs.Changing.{ChangesAt, Changes}
+use Rattle.search.specs.Changing.{Changes}
 use Rattle.search.specs.Layers.{Timetable, row_of, Trail, Filled}
 use Rattle.search.specs.Working.{may_use, place, label_in}
 use Rattle.search.specs.declared.record.WorkRecord.{WorkRecord}

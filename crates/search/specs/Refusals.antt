@@ -1,9 +1,8 @@
 -- Why a search is refused ahead of looking for a connection: the earliest listed reason, and its number.
-use Rattle.std.specs.Prelude.{ℕ, ◌+◌, ◌*◌, Bool, true, false, ◌||◌, List, length, Some, None, Option, ◌==◌, nat_lt}
+use Rattle.std.specs.Prelude.{ℕ, ◌+◌, ◌*◌, Bool, true, false, ◌||◌, List, Some, None, Option, ◌==◌, nat_lt}
 use Rattle.book.specs.Limits.{last_station}
 use Rattle.book.specs.Refusals.{number as book_number}
 use Rattle.book.specs.Trains.{Train, all_stops, meaning}
-use Rattle.book.specs.declared.refusal.Refusal.{Refusal as BookRefusal}
 use Rattle.book.specs.declared.refusal.Refusal.TheVariants.{Damaged}
 use Rattle.book.specs.declared.rows.StopRow.{StopRow}
 use Rattle.book.specs.declared.rows.TrainRow.{TrainRow}

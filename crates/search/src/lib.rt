@@ -7,6 +7,8 @@
 // It goes by layers of labels, one layer for each number of changes; a label is the cheapest total with which one can be
 // on board a run at a stop. `layers` fills them run by run (`riding`, `boarding`), `ends` takes the cheapest label at the
 // destination, and `trail` reads the rides back.
+#![tactic(auto)]
+
 ghost use Rattle.std.specs.Prelude.{◌≡◌, List, length};
 ghost use Rattle.book.specs.Histories.{History, Closed, LeadsOn};
 ghost use Rattle.book.specs.PlainList.{Call, reads, in_force};

@@ -5,6 +5,8 @@
 //     println!(rt, "{}", total.minutes())?;
 //
 // Whatever looks for the cheapest of many is written once, over `P: Tariff`, and proved once, from the laws below.
+#![tactic(auto)]
+
 ghost use Rattle.std.specs.Prelude.{◌≡◌};
 ghost use Rattle.tariff.specs.Laws.{Connex, Transitive, Grows, Keeps, Starts, Counts, Stops};
 ghost use Rattle.tariff.specs.Meaning.{Meaning};

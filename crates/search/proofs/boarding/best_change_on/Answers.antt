@@ -1,4 +1,4 @@
-use Rattle.std.proofs.Common.{◌≡◌, ℕ, ◌+◌, ◌*◌, ◌&&◌, length, Option, ap, ◌∙◌, ap₂, arith}
+use Rattle.std.proofs.Common.{ℕ, ◌+◌, ◌*◌, ◌&&◌, length, Option, ap, ◌∙◌, ap₂, arith}
 use Rattle.book.specs.Rules.{stop_at}
 use Rattle.connection.specs.Choosing.{mapped, only_when}
 use Rattle.connection.specs.Clock.{midnight}

@@ -1,4 +1,4 @@
-use Rattle.std.proofs.Common.{◌≡◌, ◌-◌, ◌<◌, ◌≤◌, true, length, is_some}
+use Rattle.std.proofs.Common.{◌≡◌, ◌-◌, ◌<◌, true, length, is_some}
 use Rattle.book.specs.Rules.{stop_at}
 use Rattle.connection.specs.Settled.{no_dearer}
 use Rattle.connection.specs.Ways.{Among, Best}

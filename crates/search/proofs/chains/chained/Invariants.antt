@@ -1,4 +1,4 @@
-use Rattle.std.proofs.Common.{◌≡◌, ◌+◌, ◌≤◌, length}
+use Rattle.std.proofs.Common.{◌+◌, ◌≤◌, length}
 use Rattle.search.specs.Working.{label_at}
 use Rattle.search.proofs.Chaining.{ChainedFrom}
 use Rattle.search.proofs.chains.chained.Given as goal

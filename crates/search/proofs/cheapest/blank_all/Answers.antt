@@ -1,4 +1,4 @@
-use Rattle.std.proofs.Common.{◌≡◌, List, [], ◌∷◌, ◌++◌, length, take, replicate, sym, ap, ◌∙◌, ap₂, arith, take_all}
+use Rattle.std.proofs.Common.{[], ◌∷◌, ◌++◌, replicate, sym, ap, ◌∙◌, ap₂, arith, take_all}
 use Rattle.std.proofs.lemmas.List.{replicate_more, take_more_set}
 use Rattle.search.specs.Records.{blank}
 use Rattle.search.proofs.cheapest.blank_all.Goals as goal

@@ -1,5 +1,4 @@
-use Rattle.std.proofs.Common.{◌≡◌, ℕ, suc, ◌+◌, ◌<◌, ◌≤◌, length, sym, refl, ap, ◌∙◌, subst, arith}
-use Rattle.search.specs.Working.{layer_at}
+use Rattle.std.proofs.Common.{◌+◌, length, refl, arith}
 use Rattle.search.proofs.CheapestEnd.{nothing_found, whole, end_layer, whole_told, finds, rest_stands}
 use Rattle.search.proofs.Layering.{layers_below}
 use Rattle.search.proofs.cheapest.cheapest.Goals as goal

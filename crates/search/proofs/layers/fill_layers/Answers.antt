@@ -1,6 +1,6 @@
-use Rattle.std.proofs.Common.{◌≡◌, ℕ, suc, ◌+◌, ◌-◌, ◌*◌, ◌<◌, ◌≤◌, length, sym, refl, ap, ◌∙◌, subst, inl, inr, add-one, arith}
+use Rattle.std.proofs.Common.{◌≡◌, ℕ, suc, ◌+◌, ◌-◌, length, refl, subst, inl, inr, add-one, arith}
 use Rattle.search.specs.Chains.{Linked}
-use Rattle.search.specs.Working.{layer_at, label_in}
+use Rattle.search.specs.Working.{label_in}
 use Rattle.search.proofs.FillingLayers.{filled_layer}
 use Rattle.search.proofs.Layering.{next_layer, layers_below}
 use Rattle.search.proofs.layers.fill_layers.Goals as goal

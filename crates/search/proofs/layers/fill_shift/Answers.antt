@@ -1,4 +1,4 @@
-use Rattle.std.proofs.Common.{◌≡◌, ℕ, ◌+◌, ◌-◌, false, length, get_or, sym, ap, ◌∙◌, subst, add-one, arith}
+use Rattle.std.proofs.Common.{ℕ, ◌+◌, ◌-◌, false, length, get_or, sym, ap, ◌∙◌, subst, add-one, arith}
 use Rattle.book.specs.Answers.{train_row}
 use Rattle.search.specs.Layers.{Fills, RunAsked, ShiftAsked}
 use Rattle.search.specs.Working.{place}

@@ -1,10 +1,10 @@
-use Rattle.std.proofs.Common.{◌≡◌, ℕ, suc, ◌+◌, ◌-◌, ◌*◌, ◌<◌, ◌≤◌, ◌||◌, length, set, ap, ◌∙◌, subst, add_assoc, add-one, arith}
+use Rattle.std.proofs.Common.{◌≡◌, ℕ, ◌+◌, ◌-◌, ◌*◌, ◌<◌, ◌≤◌, ◌||◌, length, set, ap, ◌∙◌, subst, add_assoc, arith}
 use Rattle.book.specs.Answers.{train_row}
 use Rattle.search.specs.Layers.{row_of}
 use Rattle.search.specs.Records.{record_of}
 use Rattle.search.specs.Working.{number, layer_at, part_at, unless_beaten}
 use Rattle.search.proofs.FillingRuns.{FilledTo, filled_none, next_unchanged, filled_more, comes_next, fills_run}
-use Rattle.search.proofs.Layering.{next_layer, layers_below, layer_most, record_below, part_within}
+use Rattle.search.proofs.Layering.{layers_below, layer_most, record_below, part_within}
 use Rattle.search.proofs.RowsAreTrains.{fits, place_below}
 use Rattle.search.proofs.Unchanged.{linked_same}
 use Rattle.search.proofs.riding.fill_run.Goals as goal

@@ -1,4 +1,4 @@
-use Rattle.std.proofs.Common.{suc, ◌≤◌, length, sym, ap, ◌∙◌, arith}
+use Rattle.std.proofs.Common.{suc, ◌≤◌, sym, ap, ◌∙◌, arith}
 use Rattle.search.specs.Working.{layer_at, costs_no_more}
 use Rattle.search.proofs.BeatenLabels.{beaten_in, unbeaten_more}
 use Rattle.search.proofs.Layering.{next_layer, layers_below}
