@@ -98,7 +98,9 @@ impl Timetable {
             count: 0,
         };
         let (book, refused) = enter(book, &mut trains, &mut stops, train, rows);
-        assert!(!refused);
+        if refused {
+            return Err(Fail::new("the train was refused"));
+        }
         Ok(Timetable {
             book,
             trains,
