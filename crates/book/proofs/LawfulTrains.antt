@@ -1,6 +1,6 @@
 -- The trains in force keep the rules.
 use Rattle.std.proofs.Common.{◌≡◌, ℕ, zero, suc, ◌<◌, Bool, true, false, cond, not, ◌&&◌, eqb, ◌≢◌, List, [], ◌∷◌, ◌++◌, length, Some, None, Option, sym, refl, ap, subst, arith}
-use Rattle.std.specs.List.{AllByRecursion as All}
+use Rattle.std.specs.List.{AllByRecursion}
 use Rattle.std.proofs.lemmas.Bool.{and_parts, and_from, or_parts, or_from, not-true, not_from_false, eqb-false, ne_eqb}
 use Rattle.book.specs.declared.rows.StopRow.{StopRow}
 use Rattle.book.specs.declared.rows.TrainRow.{TrainRow}
@@ -111,7 +111,7 @@ distinct_at (t ∷ ts) d zero (suc j) l m = λ e. unknown_at t.number ts (not-tr
 distinct_at (t ∷ ts) d (suc i) (suc j) l m = distinct_at ts (and_parts _ _ d).1 i j (omega arith) (omega arith)
 
 -- ---- each keeps the rules
-all_rules : (ts : List Train) → all_sound ts ≡ true → All (λ (t : Train). Rules t.number t.stops) ts
+all_rules : (ts : List Train) → all_sound ts ≡ true → AllByRecursion (λ (t : Train). Rules t.number t.stops) ts
 all_rules [] h = tt
 all_rules (t ∷ ts) h = let p = and_parts _ _ h in ((sound_is_the_rules t.number t.stops).0 p.0, all_rules ts p.1)
 

@@ -1,6 +1,6 @@
 -- Any number of calls on one book, in any order that book and entry allow, and what then holds.
 use Rattle.std.specs.Prelude.{◌≡◌, ℕ, zero, suc, ◌<◌, ◌≤◌, ◌≢◌, List, [], ◌∷◌, ◌++◌, length, Some, None, Ok, Err, Result}
-use Rattle.std.specs.List.{AllByRecursion as All}
+use Rattle.std.specs.List.{AllByRecursion}
 use Rattle.book.specs.Answers.{new_book, begin_answer, stop_answer, stop_rows, finish_answer, finish_rows, abandon_answer, withdraw_answer, withdraw_trains, withdraw_stops}
 use Rattle.book.specs.Limits.{most_trains, most_stops}
 use Rattle.book.specs.PlainList.{Call, begins, stops, finishes, abandons, withdraws, reads, InForce, in_force}
@@ -84,7 +84,7 @@ number_at (t ∷ ts) (suc i) = number_at ts i
 pub record Lawful (ts : List Train) : Type 0 where
   pub not_many : length ts ≤ most_trains
   pub not_many_stops : all_stops ts ≤ most_stops
-  pub rules : All (λ (t : Train). Rules t.number t.stops) ts
+  pub rules : AllByRecursion (λ (t : Train). Rules t.number t.stops) ts
   pub distinct : (i j : ℕ) → i < j → j < length ts → number_at ts i ≢ number_at ts j
 
 abbrev pub EveryHistoryIsLawful : Type 0

@@ -6,6 +6,9 @@ use Rattle.connection.specs.Ways.{Image, Either, Among, Given, Only, Best}
 use Rattle.connection.specs.declared.ride.Shift.{Shift}
 use Rattle.connection.specs.declared.ride.Shift.TheVariants.{DayBefore, SameDay, DayAfter}
 
+abbrev pub Nothing : {A : Type 0} → A → Type 0
+Nothing t = ⊥
+
 pub refl_from : {A : Type 0} (at_most : A → A → Bool) → ((a b : A) → T (at_most a b || at_most b a)) → (a : A) → T (at_most a a)
 refl_from at_most connex a = same (at_most a a) (connex a a)
   where

@@ -1,6 +1,6 @@
 -- The journeys at the edges: the labels tell each total, and its rides pass the test of a connection.
 use Rattle.std.proofs.Common.{◌≡◌, ℕ, Bool, true, false, ◌&&◌, T, eqb, List, [], ◌∷◌, Some, None, Option, refl, ap, ◌∙◌, eqb→eq}
-use Rattle.std.specs.List.{AllByRecursion as All}
+use Rattle.std.specs.List.{AllByRecursion}
 use Rattle.tariff.specs.ByFares.{by_fares}
 use Rattle.tariff.specs.ByMinutes.{by_minutes}
 use Rattle.tariff.specs.ByWaits.{by_waits}
@@ -91,7 +91,7 @@ module _ (rules : SoundIsTheRules)
   holds_by fares_then_minutes c keep t = holds (by_fares record {}) _ fares_pass c _ c.found (fares c.trains weekly c.query keep) t
   holds_by longest_of_waits c keep t = holds (by_waits record {}) _ waits_pass c _ c.found (waits c.trains weekly c.query keep) t
 
-  all_hold : (cs : List Case) → T (all_pass cs) → All Holds cs
+  all_hold : (cs : List Case) → T (all_pass cs) → AllByRecursion Holds cs
   unfolding all_pass
   all_hold [] t = tt
   all_hold (c ∷ cs) t =

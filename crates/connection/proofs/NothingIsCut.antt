@@ -1,6 +1,6 @@
 -- No stretch is longer, or dearer, than a step can hold.
 use Rattle.std.proofs.Common.{◌≡◌, ℕ, zero, suc, ◌+◌, ◌<◌, ◌≤◌, List, [], ◌∷◌, ◌++◌, length, take, drop, Some, None, Option, refl, arith}
-use Rattle.std.specs.List.{AllByRecursion as All}
+use Rattle.std.specs.List.{AllByRecursion}
 use Rattle.tariff.specs.declared.step.Kind.{Kind}
 use Rattle.tariff.specs.declared.step.Kind.TheVariants.{Start, Change}
 use Rattle.book.specs.Rules.{Rules, stop_at}
@@ -21,21 +21,21 @@ record Small (s : StopRow) : Type 0 where
   pays : fare_on s ≤ 65535
 
 -- ---- lists
-all_append : {X : Type 0} (P : X → Type 0) (xs ys : List X) → All P xs → All P ys → All P (xs ++ ys)
+all_append : {X : Type 0} (P : X → Type 0) (xs ys : List X) → AllByRecursion P xs → AllByRecursion P ys → AllByRecursion P (xs ++ ys)
 all_append P [] ys a b = b
 all_append P (x ∷ xs) ys a b = (a.0, all_append P xs ys a.1 b)
 
-all_take : {X : Type 0} (P : X → Type 0) (n : ℕ) (xs : List X) → All P xs → All P (take n xs)
+all_take : {X : Type 0} (P : X → Type 0) (n : ℕ) (xs : List X) → AllByRecursion P xs → AllByRecursion P (take n xs)
 all_take P zero xs a = tt
 all_take P (suc n) [] a = tt
 all_take P (suc n) (x ∷ xs) a = (a.0, all_take P n xs a.1)
 
-all_drop : {X : Type 0} (P : X → Type 0) (n : ℕ) (xs : List X) → All P xs → All P (drop n xs)
+all_drop : {X : Type 0} (P : X → Type 0) (n : ℕ) (xs : List X) → AllByRecursion P xs → AllByRecursion P (drop n xs)
 all_drop P zero xs a = a
 all_drop P (suc n) [] a = tt
 all_drop P (suc n) (x ∷ xs) a = all_drop P n xs a.1
 
-all_stops_small : (ss : List StopRow) → ((i : ℕ) → i < length ss → arrival (stop_at ss i) ≤ 2879) → ((i : ℕ) → i < length ss → departure (stop_at ss i) ≤ 2879) → All (λ (s : StopRow). fare_on s ≤ 65535) ss → All Small ss
+all_stops_small : (ss : List StopRow) → ((i : ℕ) → i < length ss → arrival (stop_at ss i) ≤ 2879) → ((i : ℕ) → i < length ss → departure (stop_at ss i) ≤ 2879) → AllByRecursion (λ (s : StopRow). fare_on s ≤ 65535) ss → AllByRecursion Small ss
 all_stops_small [] a d f = tt
 all_stops_small (s ∷ ss) a d f =
     (record { gets_in = a 0 (omega arith); goes_out = d 0 (omega arith); pays = f.0 }, all_stops_small ss (λ i h. a (suc i) (omega arith)) (λ i h. d (suc i) (omega arith)) f.1)
@@ -55,28 +55,28 @@ departs_small number ss rules i h = go (stop_at ss i).depart (λ d e. rules.depa
     go (Some d) small e = small d e
     go None small e = omega arith
 
-stops_small : (trains : List Train) → KeepTheRules trains → HaveFares trains → (n : ℕ) → All Small (stops_at trains n)
+stops_small : (trains : List Train) → KeepTheRules trains → HaveFares trains → (n : ℕ) → AllByRecursion Small (stops_at trains n)
 stops_small [] rules fares n = tt
 stops_small (t ∷ ts) rules fares zero =
     all_stops_small t.stops (arrives_small t.number t.stops rules.0) (departs_small t.number t.stops rules.0) fares.0
 stops_small (t ∷ ts) rules fares (suc n) = stops_small ts rules.1 fares.1 n
 
 -- also past the last stop
-leaves_small : (ss : List StopRow) → All Small ss → (i : ℕ) → departure (stop_at ss i) ≤ 2879
+leaves_small : (ss : List StopRow) → AllByRecursion Small ss → (i : ℕ) → departure (stop_at ss i) ≤ 2879
 leaves_small [] a i = omega arith
 leaves_small (s ∷ ss) a zero = a.0.goes_out
 leaves_small (s ∷ ss) a (suc i) = leaves_small ss a.1 i
 
 -- ---- stretches
-over_whole : (ss : List StopRow) → All Small ss → All Whole (over ss)
+over_whole : (ss : List StopRow) → AllByRecursion Small ss → AllByRecursion Whole (over ss)
 over_whole [] a = tt
 over_whole (s ∷ []) a = tt
 over_whole (s ∷ t ∷ []) a = ((omega (arith, a.1.0.gets_in), a.0.pays), tt)
 over_whole (s ∷ t ∷ u ∷ more) a =
     ((omega (arith, a.1.0.gets_in), a.0.pays), ((omega (arith, a.1.0.goes_out), omega arith), over_whole (t ∷ u ∷ more) a.1))
 
-module _ (trains : List Train) (small : (n : ℕ) → All Small (stops_at trains n)) where
-  rides_whole : (wait : Kind) (since : ℕ) (rides : List Ride) → All Whole (stretches_from trains wait since rides)
+module _ (trains : List Train) (small : (n : ℕ) → AllByRecursion Small (stops_at trains n)) where
+  rides_whole : (wait : Kind) (since : ℕ) (rides : List Ride) → AllByRecursion Whole (stretches_from trains wait since rides)
   rides_whole wait since [] = tt
   rides_whole wait since (r ∷ rest) =
       let out = leaves_small (stops_at trains r.train) (small r.train) r.board in

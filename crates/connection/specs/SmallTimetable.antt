@@ -1,7 +1,7 @@
 -- A small timetable, and the journeys at its edges with what they come to.
 use Rattle.std.specs.Prelude.{◌≡◌, ℕ, ◌+◌, ◌*◌, List, [], ◌∷◌, Some, None, Option}
 use Rattle.std.proofs.Common.{arith}
-use Rattle.std.specs.List.{AllByRecursion as All}
+use Rattle.std.specs.List.{AllByRecursion}
 use Rattle.tariff.specs.ByFares.{by_fares}
 use Rattle.tariff.specs.ByMinutes.{by_minutes}
 use Rattle.tariff.specs.ByWaits.{by_waits}
@@ -122,4 +122,4 @@ edge_journeys =
     ∷ []
 
 unfoldable pub EveryEdgeJourneyHolds : Type 0
-EveryEdgeJourneyHolds = All Holds edge_journeys
+EveryEdgeJourneyHolds = AllByRecursion Holds edge_journeys

@@ -1,10 +1,11 @@
 -- The best end of the rows at the destination is the best end.
 use Rattle.std.proofs.Common.{◌≡◌, ℕ, suc, ◌+◌, ◌*◌, ◌<◌, ◌≤◌, ◌||◌, T, List, length, Some, None, Option, sym, refl, ap, ◌∙◌, subst, mul-le-mul_right, add-one, arith}
+use Rattle.std.specs.Option.{option_map}
 use Rattle.tariff.specs.Laws.{Connex, Transitive}
 use Rattle.tariff.specs.Meaning.{Meaning}
 use Rattle.book.specs.Rules.{stop_at}
 use Rattle.book.specs.declared.rows.StopRow.{StopRow}
-use Rattle.connection.specs.Choosing.{mapped, cheaper}
+use Rattle.connection.specs.Choosing.{cheaper}
 use Rattle.connection.specs.Rides.{may_alight}
 use Rattle.connection.specs.Ways.{Among, Best}
 use Rattle.connection.specs.declared.ride.Shift.{Shift}
@@ -22,7 +23,7 @@ layer_within size layer layers most h w =
     let k : suc layer ≤ layers = omega arith in
     omega (arith, mul-le-mul_right {m = suc layer} {n = layers} (3 * size) k, w)
 
-some_mapped : {A B C : Type 0} (f : A → B) (o : Option A) (b : B) → mapped f o ≡ Some b → ((a : A) → o ≡ Some a → f a ≡ b → C) → C
+some_mapped : {A B C : Type 0} (f : A → B) (o : Option A) (b : B) → option_map f o ≡ Some b → ((a : A) → o ≡ Some a → f a ≡ b → C) → C
 some_mapped f None b e k = let z : ◌≡◌ {A = ℕ} 0 1 = cc in absurd (omega arith)
 some_mapped f (Some a) b e k = k a refl (some_same (f a) b e)
 
@@ -82,7 +83,7 @@ module _ {A : Type 0} (m : Meaning A) (connex : Connex m) (transitive : Transiti
     from : (e : End A) → Ends stops table layers destination e → Among (length stops) At e
     from e x =
         let it = end_of e.layer (place (length stops) x.shift x.row) in
-        let named = ap (mapped it) x.held ∙ ap Some (same_end (it x.label) e (sym x.total_is) refl (sym x.place_is)) in
+        let named = ap (option_map it) x.held ∙ ap Some (same_end (it x.label) e (sym x.total_is) refl (sym x.place_is)) in
         (x.row, x.inside, record { here = x.here; off = x.off; named = (e.layer, x.in_layers, (x.shift, named)) })
 
     pub ends_all : (best : Option (End A)) → Best (ends_no_dearer m) (Among (length stops) At) best → Best (ends_no_dearer m) (Ends stops table layers destination) best

@@ -1,9 +1,9 @@
 -- The labels at the destination.
 use Rattle.std.specs.Prelude.{◌≡◌, ℕ, ◌<◌, Bool, T, List, length, Some, Option}
+use Rattle.std.specs.Option.{option_map}
 use Rattle.tariff.specs.Meaning.{Meaning}
 use Rattle.book.specs.Rules.{stop_at}
 use Rattle.book.specs.declared.rows.StopRow.{StopRow}
-use Rattle.connection.specs.Choosing.{mapped}
 use Rattle.connection.specs.Rides.{may_alight}
 use Rattle.connection.specs.Ways.{Among}
 use Rattle.connection.specs.declared.label.Label.{Label}
@@ -23,7 +23,7 @@ module _ {A : Type 0} where
 
   -- the end that names the label by layer, shift and row, if there is that label
   abbrev pub end_at : ℕ → List (WorkRecord A) → ℕ → Shift → ℕ → Option (End A)
-  end_at size table k s row = mapped (end_of k (place size s row)) (label_in size table k s row)
+  end_at size table k s row = option_map (end_of k (place size s row)) (label_in size table k s row)
 
   -- e names a label of the row in the layer, of any shift
   abbrev pub EndsIn : ℕ → List (WorkRecord A) → ℕ → ℕ → End A → Type 0
