@@ -1,4 +1,6 @@
 // The book's calls on worked examples, in a crate of their own so that the book is not proved again for them.
+#![tactic(auto)]
+
 #[cfg(test)]
 mod filling;
 #[cfg(test)]

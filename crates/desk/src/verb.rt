@@ -53,9 +53,6 @@ pub fn verb_named(word: &[u8]) -> Option<Verb>
     if is(word, b"runs") {
         return Some(Verb::Runs);
     }
-    if is(word, b"query") {
-        return Some(Verb::Query);
-    }
     if is(word, b"train") {
         return Some(Verb::Train);
     }

@@ -1,4 +1,6 @@
 // The search on worked examples, in a crate of their own so that the search is not proved again for them.
+#![tactic(auto)]
+
 #[cfg(test)]
 mod asking;
 #[cfg(test)]
