@@ -1,5 +1,5 @@
 // The list of exceptions.
-ghost use Rattle.std.specs.Prelude.{◌≡◌, ◌<◌, ◌≤◌, false, ltb, [], ◌∷◌, ◌++◌, length, if◌then◌else◌, MatchOption, nat_lt};
+ghost use Rattle.std.specs.Prelude.{◌≡◌, ◌<◌, ◌≤◌, false, [], ◌∷◌, ◌++◌, length, if◌then◌else◌, MatchOption, nat_lt};
 ghost use Rattle.calendar.specs.Limits.{most_exceptions};
 ghost use Rattle.calendar.specs.Words.{is_for, marked, entries, place, word_of, has_room, note_answer, noted, room_answer};
 
@@ -48,7 +48,7 @@ impl Listed {
     fn append(&mut self, exception: Exception) -> Result<(), Refusal>
         requires few { self.old.count ≤ most_exceptions }
         ensures answer { result ≡ room_answer (nat_lt self.old.count most_exceptions) }
-        ensures listed { entries self.new ≡ (if ltb self.old.count most_exceptions then entries self.old ++ (exception ∷ []) else entries self.old) }
+        ensures listed { entries self.new ≡ (if nat_lt self.old.count most_exceptions then entries self.old ++ (exception ∷ []) else entries self.old) }
         ensures few { self.new.count ≤ most_exceptions }
         ensures refused { nat_lt self.old.count most_exceptions ≡ false → self.new ≡ self.old }
     {

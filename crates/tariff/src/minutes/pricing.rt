@@ -57,17 +57,17 @@ impl Tariff for Minutes {
 
     ghost meaning = { by_minutes };
 
-    ghost connex = { first_of (Prim.search rules, Prim.grind (arith, Self.row.coded.inj)) };
+    ghost connex = { Prim.search rules };
 
-    ghost transitive = { first_of (Prim.search rules, Prim.grind (arith, Self.row.coded.inj)) };
+    ghost transitive = { Prim.search rules };
 
-    ghost grows = { first_of (Prim.search rules, Prim.grind (arith, Self.row.coded.inj)) };
+    ghost grows = { Prim.search rules };
 
-    ghost keeps = { first_of (Prim.search rules, Prim.grind (arith, Self.row.coded.inj)) };
+    ghost keeps = { Prim.search rules };
 
-    ghost starts = { first_of (Prim.search rules, Prim.grind (arith, Self.row.coded.inj)) };
+    ghost starts = { Prim.search rules };
 
-    ghost counts = { first_of (Prim.search rules, Prim.grind (arith, Self.row.coded.inj)) };
+    ghost counts = { Prim.search rules };
 
     ghost stops = { λ t a s full. with_full t a s (omega arith) };
 
