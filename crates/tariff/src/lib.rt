@@ -2,7 +2,7 @@
 //
 //     let tariff = Minutes::new(5)?;
 //     let total = tariff.total_of(&steps);      // all minutes, and 5 more for each change
-//     println!(rt, "{}", total.minutes())?;
+//     println!(rt; "{}", total.minutes())?;
 //
 // Whatever looks for the cheapest of many is written once, over `P: Tariff`, and proved once, from the laws below.
 #![tactic(auto)]
