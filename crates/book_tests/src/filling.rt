@@ -1,9 +1,9 @@
 // A book is filled to the last row.
 use crate::rows::{ends, enter, leaves, next, passes};
+use crate::sure::sure;
 use book::refusal::Refused;
 use book::rows::{StopRow, TrainRow};
 use book::state::{Book, Entry};
-use std::process::Abort;
 use std::test::Fail;
 
 // Eight stops, a minute from each to the next.
@@ -21,26 +21,27 @@ fn eight() -> [StopRow; 8] {
 }
 
 // Enters trains 1 to 512, of eight stops each.
-fn fill(rt: &impl Abort, trains: &mut [TrainRow], stops: &mut [StopRow]) -> Book {
+fn fill(trains: &mut [TrainRow], stops: &mut [StopRow]) -> Result<Book, Fail> {
     let mut book = Book::new();
     for number in 1..=512u16 {
         let (filled, refusal) = enter(book, trains, stops, number, &eight());
         book = filled;
-        assert_eq!(rt; refusal, 0);
+        sure(refusal == 0, "a train was refused")?;
     }
-    book
+    Ok(book)
 }
 
 #[test]
-fn all_512_trains_and_4096_stops_fit_and_no_train_more(rt: HostRuntime) {
+fn all_512_trains_and_4096_stops_fit_and_no_train_more(rt: HostRuntime) -> Result<(), Fail> {
     let mut trains = [TrainRow::BLANK; 520];
     let mut stops = [StopRow::BLANK; 4100];
-    let book = fill(&rt, &mut trains, &mut stops);
+    let book = fill(&mut trains, &mut stops)?;
     assert_eq!(rt; book.trains(), 512);
     assert_eq!(rt; book.stops(), 4096);
     assert!(rt; book.check(&trains, &stops).is_ok());
     let (_, refusal) = enter(book, &mut trains, &mut stops, 513, &eight());
     assert_eq!(rt; refusal, 4);
+    Ok(())
 }
 
 // A train's first 63 stops, a minute from each to the next; or the book without them, and why.

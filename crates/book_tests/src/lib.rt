@@ -8,4 +8,6 @@ mod refusing;
 #[cfg(test)]
 mod rows;
 #[cfg(test)]
+mod sure;
+#[cfg(test)]
 mod withdrawing;

@@ -1,8 +1,8 @@
 // Trains are withdrawn: the first, one in the middle, the last, and one of two with the same number.
 use crate::rows::{ends, enter, leaves, passes, withdraw};
+use crate::sure::sure;
 use book::rows::{StopRow, TrainRow};
 use book::state::Book;
-use std::process::Abort;
 use std::test::Fail;
 
 const TRAINS: usize = 4;
@@ -19,20 +19,19 @@ fn three(trains: &mut [TrainRow; TRAINS], stops: &mut [StopRow; STOPS]) -> (Book
 }
 
 // After a withdrawal of `number`: the numbers, first stop rows and first stations of the two trains that are left.
-fn left_after(rt: &impl Abort, number: u16) -> Result<[(u16, u16, u16); 2], Fail> {
+fn left_after(number: u16) -> Result<[(u16, u16, u16); 2], Fail> {
     let mut trains = [TrainRow::BLANK; TRAINS];
     let mut stops = [StopRow::BLANK; STOPS];
     let (book, entered) = three(&mut trains, &mut stops);
-    assert_eq!(rt; entered, 0);
+    sure(entered == 0, "a train was refused")?;
     let before = stops;
     let (book, refusal) = withdraw(book, &mut trains, &mut stops, number);
-    assert_eq!(rt; refusal, 0);
-    assert_eq!(rt; book.trains(), 2);
-    assert!(rt; book.check(&trains, &stops).is_ok());
-    // the freed rows keep what they held
-    assert_eq!(rt; stops[5], before[5]);
-    assert_eq!(rt; stops[6], before[6]);
-    assert_eq!(rt; trains[2].number, 9);
+    sure(refusal == 0, "the withdrawal was refused")?;
+    sure(book.trains() == 2, "two trains are left")?;
+    sure(book.check(&trains, &stops).is_ok(), "the tables hold")?;
+    sure(stops[5] == before[5], "a freed row keeps what it held")?;
+    sure(stops[6] == before[6], "a freed row keeps what it held")?;
+    sure(trains[2].number == 9, "a freed row keeps what it held")?;
     let a = trains[0];
     let b = trains[1];
     let at_a = a.stops(&stops).first().copied().ok_or("no stop")?;
@@ -45,9 +44,9 @@ fn left_after(rt: &impl Abort, number: u16) -> Result<[(u16, u16, u16); 2], Fail
 
 #[test]
 fn later_rows_move_forward_and_their_first_rows_are_adjusted(rt: HostRuntime) -> Result<(), Fail> {
-    assert!(rt; left_after(&rt, 7)? == [(8, 0, 3), (9, 3, 6)]);
-    assert!(rt; left_after(&rt, 8)? == [(7, 0, 1), (9, 2, 6)]);
-    assert!(rt; left_after(&rt, 9)? == [(7, 0, 1), (8, 2, 3)]);
+    assert!(rt; left_after(7)? == [(8, 0, 3), (9, 3, 6)]);
+    assert!(rt; left_after(8)? == [(7, 0, 1), (9, 2, 6)]);
+    assert!(rt; left_after(9)? == [(7, 0, 1), (8, 2, 3)]);
     Ok(())
 }
 

@@ -1,5 +1,6 @@
 // Each refusal, which of several comes first, and what a search leaves of the lent ride list and work table.
 use crate::asking::NO_RIDE;
+use crate::sure::sure;
 use crate::timetable::{STOPS, Timetable, o_clock, small};
 use book::rows::StopRow;
 use calendar::weekly::Weekly;
@@ -7,7 +8,6 @@ use connection::query::Query;
 use connection::ride::Ride;
 use search::record::WorkRecord;
 use search::search;
-use std::process::Abort;
 use std::test::*;
 use tariff::Tariff;
 use tariff::waits::{WaitTotal, Waits};
@@ -79,7 +79,6 @@ type Asked = (u16, u16, u16, u16, u8);
 // A refusal leaves the rides, and the records too unless it looked for a connection in vain. A search that did look
 // leaves every record blank, those that it did not need as well.
 fn attempt(
-    rt: &impl Abort,
     timetable: &Timetable,
     asked: Asked,
     stop_rows: usize,
@@ -101,11 +100,14 @@ fn attempt(
     let mut work = [mark(); 360];
     let work = &mut work[0..records.min(360)];
     let number = refusal_of(timetable, stops, query, rides, work);
-    assert!(rt; are_unwritten(rides) == (number != 0));
+    sure(
+        are_unwritten(rides) == (number != 0),
+        "only an answer writes the rides",
+    )?;
     if number == 0 || number == 17 {
-        assert!(rt; are_blank(work));
+        sure(are_blank(work), "the records are blank")?;
     } else {
-        assert!(rt; are_marked(work));
+        sure(are_marked(work), "the records stay")?;
     }
     Ok(number)
 }
@@ -151,10 +153,7 @@ const ATTEMPTS: [(Asked, usize, usize, u8); 28] = [
 fn each_refusal_is_given_on_its_condition_the_earliest_first(rt: HostRuntime) -> Result<(), Fail> {
     let timetable = small(o_clock(9, 10))?;
     for (asked, rides, work, number) in ATTEMPTS.iter() {
-        assert_eq!(rt;
-            attempt(&rt, &timetable, *asked, 7, *rides, *work)?,
-            *number
-        );
+        assert_eq!(rt; attempt(&timetable, *asked, 7, *rides, *work)?, *number);
     }
     Ok(())
 }
@@ -165,11 +164,11 @@ fn damaged_tables_are_refused_under_1_before_anything_else(rt: HostRuntime) -> R
     let asked = (1, 4, 3, 470, 2);
     let bad = (4, 4, 0, 470, 2);
     // without the last row that is in use
-    assert_eq!(rt; attempt(&rt, &timetable, asked, 6, 3, 63)?, 1);
-    assert_eq!(rt; attempt(&rt, &timetable, bad, 6, 3, 63)?, 1);
-    assert_eq!(rt; attempt(&rt, &timetable, bad, 0, 0, 0)?, 1);
+    assert_eq!(rt; attempt(&timetable, asked, 6, 3, 63)?, 1);
+    assert_eq!(rt; attempt(&timetable, bad, 6, 3, 63)?, 1);
+    assert_eq!(rt; attempt(&timetable, bad, 0, 0, 0)?, 1);
     timetable.trains[1].first = 4;
-    assert_eq!(rt; attempt(&rt, &timetable, asked, 7, 3, 63)?, 1);
+    assert_eq!(rt; attempt(&timetable, asked, 7, 3, 63)?, 1);
     Ok(())
 }
 
@@ -177,7 +176,7 @@ fn damaged_tables_are_refused_under_1_before_anything_else(rt: HostRuntime) -> R
 fn an_empty_book_has_no_connection_and_needs_no_record(rt: HostRuntime) -> Result<(), Fail> {
     let timetable = Timetable::new();
     let asked = (1, 4, 3, 470, 2);
-    assert_eq!(rt; attempt(&rt, &timetable, asked, 0, 3, 0)?, 17);
-    assert_eq!(rt; attempt(&rt, &timetable, asked, 2, 3, 5)?, 17);
+    assert_eq!(rt; attempt(&timetable, asked, 0, 3, 0)?, 17);
+    assert_eq!(rt; attempt(&timetable, asked, 2, 3, 5)?, 17);
     Ok(())
 }

@@ -1,4 +1,5 @@
 // Timetables that the tests share, and how they are filled in.
+use crate::sure::sure;
 use book::refusal::Refused;
 use book::rows::{Departure, StopRow, TrainRow};
 use book::state::Book;
@@ -98,9 +99,7 @@ impl Timetable {
             count: 0,
         };
         let (book, refused) = enter(book, &mut trains, &mut stops, train, rows);
-        if refused {
-            return Err(Fail::new("the train was refused"));
-        }
+        sure(!refused, "a train was refused")?;
         Ok(Timetable {
             book,
             trains,
