@@ -9,9 +9,7 @@ use crate::step::Step;
 pub fn total_of<P: Tariff>(tariff: &P, steps: &[Step]) -> P::Total
     ensures { result ≡ total_of (P.Tariff.meaning tariff.now) steps.now }
 {
-    let mut total = tariff.empty();
-    for step in steps {
-        total = tariff.add(total, *step);
-    }
-    total
+    steps
+        .iter()
+        .fold(tariff.empty(), |total, step| tariff.add(total, *step))
 }
