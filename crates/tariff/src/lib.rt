@@ -4,6 +4,9 @@
 //     let total = tariff.total_of(&steps);      // all minutes, and 5 more for each change
 //     println!(rt; "{}", total.minutes())?;
 //
+// Each of the three tariffs says what a step adds to its cost (`cost`); the count of steps and its limit are said once,
+// for all (`tally`).
+//
 // Whatever looks for the cheapest of many is written once, over `P: Tariff`, and proved once, from the laws below.
 #![tactic(auto)]
 
@@ -11,11 +14,13 @@ ghost use Rattle.std.specs.Prelude.{◌≡◌};
 ghost use Rattle.tariff.specs.Laws.{Connex, Transitive, Grows, Keeps, Starts, Counts, Stops};
 ghost use Rattle.tariff.specs.Meaning.{Meaning};
 
+pub mod cost;
 pub mod fares;
 pub mod journey;
 pub mod minutes;
 pub mod refusal;
 pub mod step;
+pub mod tally;
 #[cfg(test)]
 mod tests;
 pub mod waits;

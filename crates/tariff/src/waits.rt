@@ -1,16 +1,85 @@
 // The tariff by waits: the longest wait at a start or a change.
-ghost use Rattle.std.specs.Prelude.{◌*◌, ◌≤◌};
-ghost use Rattle.tariff.specs.Limits.{most_steps, most_per_step};
+ghost use Rattle.std.specs.Prelude.{◌≡◌, ◌≤◌, length};
+ghost use Rattle.std.proofs.Common.{rules};
+ghost use Rattle.tariff.specs.ByWaits.{by_waits, wait_cost};
+ghost use Rattle.tariff.specs.Journeys.{total_of, longest_wait, waited};
+ghost use Rattle.tariff.specs.Limits.{most_steps};
 
-pub mod pricing;
+use crate::cost::{Cost, Rate};
+use crate::journey;
+use crate::step::{Kind, Step};
+use crate::tally::Tally;
 
 #[derive(Clone, Copy)]
 pub struct Waits;
 
-#[derive(Clone, Copy)]
-pub struct WaitTotal {
+// The minutes of the longest wait; fewer are cheaper.
+#[derive(Clone, Copy, PartialEq, Eq, PartialOrd, Ord)]
+pub struct WaitCost {
     longest: u16,
-    steps: u16,
-    ghost bounded: { longest ≤ most_per_step * steps },
-    ghost few: { steps ≤ most_steps },
+}
+
+pub type WaitTotal = Tally<WaitCost>;
+
+impl Waits {
+    // What a whole journey costs.
+    pub fn total_of(&self, steps: &[Step]) -> WaitTotal
+        ensures total { result ≡ total_of (by_waits self.now) steps.now }
+        ensures longest { length steps.now ≤ most_steps → result.cost.longest ≡ longest_wait steps.now }
+    {
+        journey::total_of(self, steps)
+    }
+}
+
+impl WaitTotal {
+    // The minutes of the longest wait.
+    pub fn longest(&self) -> u16
+        ensures { result ≡ self.now.cost.longest }
+    {
+        self.cost.longest
+    }
+}
+
+// How long one waits at a step.
+fn waited(step: Step) -> u16
+    ensures { result ≡ waited step }
+{
+    match step.kind {
+        Kind::Start | Kind::Change => step.minutes,
+        Kind::Ride | Kind::Stand => 0,
+    }
+}
+
+impl Rate for Waits {
+    type Cost = WaitCost;
+}
+
+impl Cost for WaitCost {
+    type By = Waits;
+
+    ghost size = { wait_cost.size };
+
+    ghost charges = { wait_cost.charges };
+
+    ghost connex = { Prim.search rules };
+
+    ghost transitive = { Prim.search rules };
+
+    ghost grows = { Prim.search rules };
+
+    ghost keeps = { Prim.search rules };
+
+    fn nothing() -> WaitCost {
+        WaitCost { longest: 0 }
+    }
+
+    fn with_step(self, _by: &Waits, step: Step) -> WaitCost {
+        WaitCost {
+            longest: self.longest.max(waited(step)),
+        }
+    }
+
+    fn at_most(self, other: WaitCost) -> bool {
+        self <= other
+    }
 }
