@@ -11,3 +11,4 @@ pub mod Orders
 pub mod Refusals
 pub mod Steps
 pub mod Tallies
+pub mod Words

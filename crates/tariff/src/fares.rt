@@ -1,14 +1,16 @@
 // The tariff by fares: all fares, and at equal fares all minutes.
-ghost use Rattle.std.specs.Prelude.{◌≡◌, ◌≤◌, length};
+ghost use Rattle.std.specs.Prelude.{◌≡◌, ◌≤◌, length, Some};
 ghost use Rattle.std.proofs.Common.{rules};
 ghost use Rattle.tariff.specs.ByFares.{by_fares, fare_cost};
 ghost use Rattle.tariff.specs.Journeys.{total_of, fares_in, minutes_in};
 ghost use Rattle.tariff.specs.Limits.{most_steps};
+ghost use Rattle.tariff.specs.Words.{fare_said};
 
 use crate::cost::{Cost, Rate};
 use crate::journey;
 use crate::step::Step;
 use crate::tally::Tally;
+use std::fmt;
 
 #[derive(Clone, Copy)]
 pub struct Fares;
@@ -84,5 +86,15 @@ impl Cost for FareCost {
 
     fn at_most(self, other: FareCost) -> bool {
         self <= other
+    }
+}
+
+impl fmt::Display for FareCost {
+    ghost output = { λ c. Some (fare_said c) };
+
+    fn fmt<W: fmt::Write>(&self, f: &mut fmt::Formatter<W>) -> fmt::Result {
+        let fare = self.fare;
+        let minutes = self.minutes;
+        write!(f, "{fare} cents {minutes} minutes")
     }
 }

@@ -2,7 +2,7 @@
 //
 //     let tariff = Minutes::new(5)?;
 //     let total = tariff.total_of(&steps);      // all minutes, and 5 more for each change
-//     println!(rt; "{}", total.minutes())?;
+//     println!(rt; "{total}")?;                 // 125 minutes
 //
 // Each of the three tariffs says what a step adds to its cost (`cost`); the count of steps and its limit are said once,
 // for all (`tally`).

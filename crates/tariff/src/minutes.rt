@@ -1,5 +1,5 @@
 // The tariff by minutes: all minutes, and a penalty for each change.
-ghost use Rattle.std.specs.Prelude.{◌≡◌, ◌+◌, ◌*◌, ◌≤◌, length};
+ghost use Rattle.std.specs.Prelude.{◌≡◌, ◌+◌, ◌*◌, ◌≤◌, length, Some};
 ghost use Rattle.tariff.specs.Limits.{most_steps, most_penalty};
 
 use crate::cost::{Cost, Rate};
@@ -7,6 +7,7 @@ use crate::journey;
 use crate::refusal::Refusal;
 use crate::step::{Kind, Step};
 use crate::tally::Tally;
+use std::fmt;
 
 const MOST_PENALTY: u16 = 1440;
 
@@ -100,5 +101,16 @@ impl Cost for MinuteCost {
 
     fn at_most(self, other: MinuteCost) -> bool {
         self <= other
+    }
+}
+
+impl fmt::Display for MinuteCost {
+    ghost use Rattle.tariff.specs.Words.{minutes_said};
+
+    ghost output = { λ c. Some (minutes_said c) };
+
+    fn fmt<W: fmt::Write>(&self, f: &mut fmt::Formatter<W>) -> fmt::Result {
+        let minutes = self.minutes;
+        write!(f, "{minutes} minutes")
     }
 }

@@ -6,6 +6,7 @@ use crate::cost::{Cost, Rate};
 use crate::step::Step;
 use crate::{MOST_STEPS, Tariff};
 use std::alloc::AllocError;
+use std::fmt;
 
 pub struct Tally<C: Cost> {
     pub(crate) cost: C,
@@ -26,6 +27,15 @@ impl<C: Cost> Clone for Tally<C> {
             cost: self.cost,
             steps: self.steps,
         })
+    }
+}
+
+// A total is shown by its cost.
+impl<C: Cost + fmt::Display> fmt::Display for Tally<C> {
+    ghost output = { λ t. C.output t.cost };
+
+    fn fmt<W: fmt::Write>(&self, f: &mut fmt::Formatter<W>) -> fmt::Result {
+        self.cost.fmt(f)
     }
 }
 

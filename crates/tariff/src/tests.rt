@@ -115,3 +115,26 @@ fn a_full_total_takes_no_further_step(rt: HostRuntime) {
         566222400
     );
 }
+
+// The example of the rules: 125 minutes with a penalty of 5, 750 cents and 120 minutes, and a wait of 10.
+#[test]
+fn totals_are_shown_with_their_units(rt: HostRuntime) -> Result<(), Fail> {
+    let alloc = rt.alloc();
+    let steps = [
+        Step::new(Kind::Start, 10, 0),
+        Step::new(Kind::Ride, 30, 300),
+        Step::new(Kind::Stand, 5, 0),
+        Step::new(Kind::Ride, 35, 200),
+        Step::new(Kind::Change, 0, 0),
+        Step::new(Kind::Ride, 40, 250),
+    ];
+    let minutes = Minutes::new(5)?.total_of(&steps).to_string(alloc)?;
+    assert_eq!(rt; minutes.as_str(), "125 minutes");
+    let fare = Fares.total_of(&steps).to_string(alloc)?;
+    assert_eq!(rt; fare.as_str(), "750 cents 120 minutes");
+    let wait = Waits.total_of(&steps).clone()?.to_string(alloc)?;
+    assert_eq!(rt; wait.as_str(), "10 minutes of waiting");
+    let refusal = Refusal::HighPenalty.to_string(alloc)?;
+    assert_eq!(rt; refusal.as_str(), "a penalty above 1440 minutes");
+    Ok(())
+}

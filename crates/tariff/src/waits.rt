@@ -1,14 +1,16 @@
 // The tariff by waits: the longest wait at a start or a change.
-ghost use Rattle.std.specs.Prelude.{◌≡◌, ◌≤◌, length};
+ghost use Rattle.std.specs.Prelude.{◌≡◌, ◌≤◌, length, Some};
 ghost use Rattle.std.proofs.Common.{rules};
 ghost use Rattle.tariff.specs.ByWaits.{by_waits, wait_cost};
 ghost use Rattle.tariff.specs.Journeys.{total_of, longest_wait, waited};
 ghost use Rattle.tariff.specs.Limits.{most_steps};
+ghost use Rattle.tariff.specs.Words.{wait_said};
 
 use crate::cost::{Cost, Rate};
 use crate::journey;
 use crate::step::{Kind, Step};
 use crate::tally::Tally;
+use std::fmt;
 
 #[derive(Clone, Copy)]
 pub struct Waits;
@@ -81,5 +83,14 @@ impl Cost for WaitCost {
 
     fn at_most(self, other: WaitCost) -> bool {
         self <= other
+    }
+}
+
+impl fmt::Display for WaitCost {
+    ghost output = { λ c. Some (wait_said c) };
+
+    fn fmt<W: fmt::Write>(&self, f: &mut fmt::Formatter<W>) -> fmt::Result {
+        let longest = self.longest;
+        write!(f, "{longest} minutes of waiting")
     }
 }
