@@ -1,72 +1,48 @@
--- The listed exceptions: where a pair stands, its word, and what a change or one more makes of the list.
-use Rattle.std.proofs.Common.{◌≡◌, ℕ, suc, ◌+◌, ◌<◌, ◌≤◌, min, Bool, true, false, cond, List, [], ◌∷◌, ◌++◌, length, get_or, take, drop, set, Some, None, sym, refl, ap, ◌∙◌, add-one, arith}
-use lib.Seq.{take-set-lt}
-use Rattle.std.proofs.lemmas.List.{length-take, length-take-le, get_or-take}
-use Rattle.calendar.specs.Words.{is_for, marked, entries, place, word_of, with_word}
+-- The listed exceptions: whether a pair has room, and what a change or one more makes of the list.
+use Rattle.std.proofs.Common.{◌≡◌, ℕ, zero, suc, ◌<◌, Bool, true, false, cond, ◌||◌, ltb, List, [], ◌∷◌, ◌++◌, length, get_or, set, Some, None, sym, refl, ap, ◌∙◌, arith}
+use Rattle.std.specs.List.{list_any, position}
+use Rattle.std.proofs.lemmas.Bool.{cond-true, cond-false, or_left}
+use Rattle.std.proofs.lemmas.Grind.{common_steps}
+use Rattle.std.proofs.lemmas.List.Folds.{list_any_at}
+use Rattle.std.proofs.lemmas.List.Quantifiers.{position-Some}
+use Rattle.arrayvec.specs.ArrayVec.{ArrayVec}
+use Rattle.calendar.specs.Limits.{most_exceptions}
+use Rattle.calendar.specs.Words.{is_for, marked, entries, place, has_room, with_word, noted}
 use Rattle.calendar.specs.declared.exceptions.Exception.{Exception}
-use Rattle.calendar.specs.declared.exceptions.Listed.{Listed}
-use Rattle.calendar.proofs.Scanned.{first_here, first_past, first_end, first_le}
 
-module _ (l : Listed) (whole : length l.records ≡ 64) (few : l.count ≤ 64) where
-  pub length_entries : length (entries l) ≡ l.count
-  length_entries = length-take-le l.count l.records (omega arith)
-
-  pub entry : (i : ℕ) (d : Exception) → i < l.count → get_or (entries l) i d ≡ get_or l.records i d
-  entry i d h = get_or-take l.count l.records i d h
-
-  -- the scan for a pair
-  module _ (code day i : ℕ) (d : Exception) (h : i < l.count) where
-    pub found : true ≡ is_for (get_or l.records i d) code day → place (drop i (entries l)) code day ≡ 0
-    found t =
-        first_here (λ e. is_for e code day) (entries l) i d (omega (arith, length_entries)) (ap (λ e. is_for e code day) (entry i d h) ∙ sym t)
-
-    pub passed : false ≡ is_for (get_or l.records i d) code day → place (drop i (entries l)) code day ≡ place (drop (i + 1) (entries l)) code day + 1
-    passed t =
-        first_past (λ e. is_for e code day) (entries l) i d (omega (arith, length_entries)) (ap (λ e. is_for e code day) (entry i d h) ∙ sym t)
-
--- the scan ended at i without the pair
-pub unlisted : (l : Listed) (code day i : ℕ) → l.count ≤ i → i ≤ l.count → i + place (drop i (entries l)) code day ≡ place (entries l) code day → place (entries l) code day ≡ length (entries l)
-unlisted l code day i h k e =
-    let n : length (entries l) ≡ min l.count (length l.records) = length-take l.count l.records in
-    omega (arith, first_end (λ x. is_for x code day) (entries l) i (omega arith), first_le (λ x. is_for x code day) (entries l))
+none_passes : {X : Type 0} (p : X → Bool) (xs : List X) → position p xs ≡ None → list_any p xs ≡ false
+none_passes p [] h = refl
+none_passes p (x ∷ xs) h = grind (arith, common_steps, none_passes p xs)
 
 module _ (code day : ℕ) where
-  pub word_listed : (es : List Exception) (d : Exception) → place es code day < length es → word_of es code day ≡ Some (get_or es (place es code day) d).runs
-  word_listed [] d = λ h. absurd (omega arith)
-  word_listed (e ∷ es) d =
-      elim (is_for e code day) as (λ b. cond b 0 (place es code day + 1) < suc (length es) → cond b (Some e.runs) (word_of es code day) ≡ Some (get_or (e ∷ es) (cond b 0 (place es code day + 1)) d).runs) [
-        | true ↦ λ h. refl
-        | false ↦ λ h. rw add-one (word_listed es d (omega arith))
-      ]
+  -- the pair has room where it is listed, and else where the list does
+  pub room_listed : (l : ArrayVec Exception) (i : ℕ) (d : Exception) → place (entries l) code day ≡ Some i → has_room l code day ≡ true
+  room_listed l i d h =
+      let at = position-Some (λ e. is_for e code day) (entries l) i d h in
+      or_left _ _ (list_any_at (λ e. is_for e code day) (entries l) i d at.0 at.1)
 
-  pub word_unlisted : (es : List Exception) → place es code day ≡ length es → word_of es code day ≡ None
-  word_unlisted [] = λ h. refl
-  word_unlisted (e ∷ es) =
-      elim (is_for e code day) as (λ b. cond b 0 (place es code day + 1) ≡ suc (length es) → cond b (Some e.runs) (word_of es code day) ≡ None) [
-        | true ↦ λ h. absurd (omega arith)
-        | false ↦ λ h. word_unlisted es (omega arith)
-      ]
+  pub room_unlisted : (l : ArrayVec Exception) → place (entries l) code day ≡ None → has_room l code day ≡ ltb (length (entries l)) most_exceptions
+  room_unlisted l h = ap (λ b. b || ltb (length (entries l)) most_exceptions) (none_passes (λ e. is_for e code day) (entries l) h)
 
   module _ (word : Bool) where
-    pub with_listed : (es : List Exception) (d : Exception) → place es code day < length es → with_word es code day word ≡ set es (place es code day) (marked (get_or es (place es code day) d) word)
-    with_listed [] d = λ h. absurd (omega arith)
-    with_listed (e ∷ es) d =
-        elim (is_for e code day) as (λ b. cond b 0 (place es code day + 1) < suc (length es) → cond b (marked e word ∷ es) (e ∷ with_word es code day word) ≡ set (e ∷ es) (cond b 0 (place es code day + 1)) (marked (get_or (e ∷ es) (cond b 0 (place es code day + 1)) d) word)) [
-          | true ↦ λ h. refl
-          | false ↦ λ h. rw add-one (ap (λ xs. e ∷ xs) (with_listed es d (omega arith)))
-        ]
+    -- the first that is for the pair is marked, and where none is, the pair comes last
+    with_at : (es : List Exception) (i : ℕ) (d : Exception) → i < length es → is_for (get_or es i d) code day ≡ true → ((k : ℕ) → k < i → is_for (get_or es k d) code day ≡ false) → with_word es code day word ≡ set es i (marked (get_or es i d) word)
+    with_at [] i d h here before = absurd (omega arith)
+    with_at (e ∷ es) zero d h here before = cond-true _ _ _ here
+    with_at (e ∷ es) (suc i) d h here before =
+        cond-false _ _ _ (before 0 (omega arith)) ∙ ap (λ xs. e ∷ xs) (with_at es i d (omega arith) here (λ k l. before (suc k) (omega arith)))
 
-    pub with_unlisted : (es : List Exception) → place es code day ≡ length es → with_word es code day word ≡ es ++ (record { code = code; day = day; runs = word } ∷ [])
-    with_unlisted [] = λ h. refl
-    with_unlisted (e ∷ es) =
-        elim (is_for e code day) as (λ b. cond b 0 (place es code day + 1) ≡ suc (length es) → cond b (marked e word ∷ es) (e ∷ with_word es code day word) ≡ e ∷ (es ++ (record { code = code; day = day; runs = word } ∷ []))) [
-          | true ↦ λ h. absurd (omega arith)
-          | false ↦ λ h. ap (λ xs. e ∷ xs) (with_unlisted es (omega arith))
-        ]
+    with_last : (es : List Exception) → list_any (λ e. is_for e code day) es ≡ false → with_word es code day word ≡ es ++ (record { code = code; day = day; runs = word } ∷ [])
+    with_last [] h = refl
+    with_last (e ∷ es) h = grind (arith, common_steps, with_last es)
 
--- the record at the pair's place is given the word
-pub changed : (l : Listed) (code day : ℕ) (word : Bool) (i : ℕ) (d x : Exception) → length l.records ≡ 64 → l.count ≤ 64 → i ≡ place (entries l) code day → i < l.count → x ≡ marked (get_or l.records i d) word → take l.count (set l.records i x) ≡ with_word (entries l) code day word
-changed l code day word i d x whole few is h new =
-    let within : place (entries l) code day < length (entries l) = omega (arith, length_entries l whole few) in
-    let there : x ≡ marked (get_or (entries l) i d) word = new ∙ ap (λ e. marked e word) (sym (entry l whole few i d h)) in
-    take-set-lt l.count l.records i x h ∙ ap (set (entries l) i) there ∙ ap (λ j. set (entries l) j (marked (get_or (entries l) j d) word)) is ∙ sym (with_listed code day word (entries l) d within)
+    -- the list that noting leaves, where the pair is listed and where it is new
+    pub noted_listed : (l : ArrayVec Exception) (i : ℕ) (d : Exception) → place (entries l) code day ≡ Some i → set (entries l) i (marked (get_or (entries l) i d) word) ≡ noted l code day word
+    noted_listed l i d h =
+        let at = position-Some (λ e. is_for e code day) (entries l) i d h in
+        sym (with_at (entries l) i d at.0 at.1 at.2) ∙ sym (cond-true _ _ _ (room_listed l i d h))
+
+    pub noted_unlisted : (l : ArrayVec Exception) → place (entries l) code day ≡ None → cond (ltb (length (entries l)) most_exceptions) (entries l ++ (record { code = code; day = day; runs = word } ∷ [])) (entries l) ≡ noted l code day word
+    noted_unlisted l h =
+        let last = with_last (entries l) (none_passes (λ e. is_for e code day) (entries l) h) in
+        ap (λ es. cond (ltb (length (entries l)) most_exceptions) es (entries l)) (sym last) ∙ ap (λ b. cond b (with_word (entries l) code day word) (entries l)) (sym (room_unlisted l h))

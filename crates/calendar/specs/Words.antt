@@ -1,9 +1,10 @@
 -- The listed exceptions: the word for a pair, and the list after a word is noted.
-use Rattle.std.specs.Prelude.{ℕ, Bool, cond, ◌&&◌, ◌||◌, List, [], ◌∷◌, take, Some, None, Ok, Err, Option, Result, ◌==◌, nat_lt}
+use Rattle.std.specs.Prelude.{ℕ, Bool, cond, ◌&&◌, ◌||◌, List, [], ◌∷◌, length, Ok, Err, Option, Result, ◌==◌, nat_lt}
+use Rattle.std.specs.List.{find, list_any, position}
+use Rattle.std.specs.Option.{option_map}
+use Rattle.arrayvec.specs.ArrayVec.{ArrayVec}
 use Rattle.calendar.specs.Limits.{most_exceptions}
-use Rattle.calendar.specs.Scans.{some, first}
 use Rattle.calendar.specs.declared.exceptions.Exception.{Exception}
-use Rattle.calendar.specs.declared.exceptions.Listed.{Listed}
 use Rattle.calendar.specs.declared.refusal.Refusal.{Refusal}
 use Rattle.calendar.specs.declared.refusal.Refusal.TheVariants.{Full}
 
@@ -15,18 +16,17 @@ is_for e code day = e.code == code && e.day == day
 abbrev pub marked : Exception → Bool → Exception
 marked e word = record { code = e.code; day = e.day; runs = word }
 
--- the records that are listed
-abbrev pub entries : Listed → List Exception
-entries l = take l.count l.records
+-- the exceptions that are listed
+abbrev pub entries : ArrayVec Exception → List Exception
+entries l = l.items
 
--- the index of the pair's exception, or the list's length
-abbrev pub place : List Exception → ℕ → ℕ → ℕ
-place es code day = first (λ e. is_for e code day) es
+-- the index of the pair's exception
+abbrev pub place : List Exception → ℕ → ℕ → Option ℕ
+place es code day = position (λ e. is_for e code day) es
 
 -- the word that is listed for the pair
 abbrev pub word_of : List Exception → ℕ → ℕ → Option Bool
-word_of [] code day = None
-word_of (e ∷ es) code day = cond (is_for e code day) (Some e.runs) (word_of es code day)
+word_of es code day = option_map (λ e. e.runs) (find (λ e. is_for e code day) es)
 
 -- the pair's word replaced, or the pair listed last
 abbrev pub with_word : List Exception → ℕ → ℕ → Bool → List Exception
@@ -34,16 +34,16 @@ with_word [] code day word = record { code = code; day = day; runs = word } ∷ 
 with_word (e ∷ es) code day word = cond (is_for e code day) (marked e word ∷ es) (e ∷ with_word es code day word)
 
 -- a word can be noted where the pair is listed already, or fewer than 64 are
-abbrev pub has_room : Listed → ℕ → ℕ → Bool
-has_room l code day = some (λ e. is_for e code day) (entries l) || nat_lt l.count most_exceptions
+abbrev pub has_room : ArrayVec Exception → ℕ → ℕ → Bool
+has_room l code day = list_any (λ e. is_for e code day) (entries l) || nat_lt (length (entries l)) most_exceptions
 
 abbrev pub room_answer : Bool → Result (Unit {0}) Refusal
 room_answer room = cond room (Ok tt) (Err Full)
 
 -- what noting answers ..
-abbrev pub note_answer : Listed → ℕ → ℕ → Result (Unit {0}) Refusal
+abbrev pub note_answer : ArrayVec Exception → ℕ → ℕ → Result (Unit {0}) Refusal
 note_answer l code day = room_answer (has_room l code day)
 
 -- .. and the list that it leaves
-abbrev pub noted : Listed → ℕ → ℕ → Bool → List Exception
+abbrev pub noted : ArrayVec Exception → ℕ → ℕ → Bool → List Exception
 noted l code day word = cond (has_room l code day) (with_word (entries l) code day word) (entries l)

@@ -1,11 +1,20 @@
 // The layer of exceptions over a calendar.
 ghost use Rattle.std.specs.Prelude.{◌≡◌, ℕ, false, []};
 ghost use Rattle.calendar.specs.Layers.{layered, noting};
-ghost use Rattle.calendar.specs.Words.{entries, has_room, note_answer, noted};
+ghost use Rattle.calendar.specs.Words.{entries, has_room, is_for, note_answer, noted, place, word_of};
 
 use crate::Calendar;
-use crate::exceptions::{Exception, Exceptions, Listed, ROOM};
+use crate::exceptions::{Exception, Exceptions};
 use crate::refusal::Refusal;
+use arrayvec::ArrayVec;
+
+impl Exception {
+    fn is_for(&self, code: u8, day: u16) -> bool
+        ensures { result ≡ is_for self.now code day }
+    {
+        self.code == code && self.day == day
+    }
+}
 
 impl<C: Calendar> Exceptions<C> {
     // The calendar below, as yet with no exception.
@@ -14,18 +23,29 @@ impl<C: Calendar> Exceptions<C> {
         ensures below { result.below ≡ below }
         ensures pairs { (c d : ℕ) → layered C.Calendar.runs result c d ≡ C.Calendar.runs below c d }
     {
-        let blank = Exception {
-            code: 0,
-            day: 0,
-            runs: false,
-        };
         Exceptions {
-            listed: Listed {
-                records: [blank; ROOM],
-                count: 0,
-            },
+            listed: ArrayVec::new(),
             below,
         }
+    }
+
+    // Where the pair is listed.
+    fn place(&self, code: u8, day: u16) -> Option<usize>
+        ensures { result ≡ place (entries self.now.listed) code day }
+    {
+        self.listed
+            .iter()
+            .position(|listed| listed.is_for(code, day))
+    }
+
+    // The word that is listed for the pair.
+    fn word(&self, code: u8, day: u16) -> Option<bool>
+        ensures { result ≡ word_of (entries self.now.listed) code day }
+    {
+        self.listed
+            .iter()
+            .find(|listed| listed.is_for(code, day))
+            .map(|listed| listed.runs)
     }
 
     // Gives the pair a word of its own, in place of the one that it may have; refused under 23, and nothing changed,
@@ -37,7 +57,20 @@ impl<C: Calendar> Exceptions<C> {
         ensures below { self.new.below ≡ self.old.below }
         ensures refused { has_room self.old.listed code day ≡ false → self.new ≡ self.old }
     {
-        self.listed.note(code, day, word)
+        match self.place(code, day) {
+            Some(i) => {
+                self.listed[i].runs = word;
+                Ok(())
+            }
+            None => self
+                .listed
+                .try_push(Exception {
+                    code,
+                    day,
+                    runs: word,
+                })
+                .map_err(|_| Refusal::Full),
+        }
     }
 }
 
@@ -45,9 +78,7 @@ impl<C: Calendar> Calendar for Exceptions<C> {
     ghost runs = { layered C.Calendar.runs };
 
     fn runs_on(&self, code: u8, day: u16) -> bool {
-        match self.listed.word(code, day) {
-            Some(word) => word,
-            None => self.below.runs_on(code, day),
-        }
+        self.word(code, day)
+            .unwrap_or_else(|| self.below.runs_on(code, day))
     }
 }
