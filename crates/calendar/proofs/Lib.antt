@@ -1,4 +1,3 @@
 mod Listings
 mod Months
 mod Noting
-mod Scanned

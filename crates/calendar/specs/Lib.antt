@@ -4,6 +4,5 @@ pub mod Limits
 pub mod Pairs
 pub mod Refusals
 pub mod Rows
-pub mod Scans
 pub mod Weekdays
 pub mod Words

@@ -32,10 +32,8 @@ impl<'a> Dated<'a> {
     pub fn new(rows: &'a [DateRow]) -> Result<Dated<'a>, Refusal>
         ensures { MatchResult result (λ d. (some_backwards rows.now ≡ false) × (d.rows.now ≡ rows.now)) (λ e. (some_backwards rows.now ≡ true) × (e ≡ Refusal.Backwards)) }
     {
-        for row in rows {
-            if row.first > row.last {
-                return Err(Refusal::Backwards);
-            }
+        if rows.iter().any(|row| row.first > row.last) {
+            return Err(Refusal::Backwards);
         }
         Ok(Dated { rows })
     }
@@ -45,11 +43,6 @@ impl<'a> Calendar for Dated<'a> {
     ghost runs = { λ t. covered t.rows.now };
 
     fn runs_on(&self, code: u8, day: u16) -> bool {
-        for row in self.rows {
-            if row.covers(code, day) {
-                return true;
-            }
-        }
-        false
+        self.rows.iter().any(|row| row.covers(code, day))
     }
 }
