@@ -15,6 +15,17 @@ pub enum Weekday {
     Sunday,
 }
 
+// The week, by the numbers of its days.
+const WEEK: [Weekday; 7] = [
+    Weekday::Monday,
+    Weekday::Tuesday,
+    Weekday::Wednesday,
+    Weekday::Thursday,
+    Weekday::Friday,
+    Weekday::Saturday,
+    Weekday::Sunday,
+];
+
 // The number of the day's weekday, Monday being 0.
 pub(crate) fn weekday_number(day: u16) -> u8
     ensures { result ≡ weekday_number day }
@@ -27,15 +38,7 @@ impl Weekday {
     pub fn of(day: u16) -> Weekday
         ensures { result ≡ weekday_of day }
     {
-        match weekday_number(day) {
-            0 => Weekday::Monday,
-            1 => Weekday::Tuesday,
-            2 => Weekday::Wednesday,
-            3 => Weekday::Thursday,
-            4 => Weekday::Friday,
-            5 => Weekday::Saturday,
-            _ => Weekday::Sunday,
-        }
+        WEEK[usize::from(weekday_number(day))]
     }
 }
 
@@ -44,14 +47,14 @@ impl fmt::Display for Weekday {
     ghost output = { λ w. Some (name_of w) };
 
     fn fmt<W: fmt::Write>(&self, f: &mut fmt::Formatter<W>) -> fmt::Result {
-        match self {
-            Weekday::Monday => write!(f, "Monday"),
-            Weekday::Tuesday => write!(f, "Tuesday"),
-            Weekday::Wednesday => write!(f, "Wednesday"),
-            Weekday::Thursday => write!(f, "Thursday"),
-            Weekday::Friday => write!(f, "Friday"),
-            Weekday::Saturday => write!(f, "Saturday"),
-            Weekday::Sunday => write!(f, "Sunday"),
-        }
+        f.write_str(match self {
+            Weekday::Monday => "Monday",
+            Weekday::Tuesday => "Tuesday",
+            Weekday::Wednesday => "Wednesday",
+            Weekday::Thursday => "Thursday",
+            Weekday::Friday => "Friday",
+            Weekday::Saturday => "Saturday",
+            Weekday::Sunday => "Sunday",
+        })
     }
 }
