@@ -1,3 +1,4 @@
 mod Listings
 mod Months
 mod Noting
+mod Zeros

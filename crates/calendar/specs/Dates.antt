@@ -1,5 +1,6 @@
 -- The Gregorian calendar, day by day: a day's date is found by going on from 1 January 2000, one day at a time.
-use Rattle.std.specs.Prelude.{ℕ, zero, suc, ◌+◌, ◌%◌, Bool, cond, not, ◌&&◌, ◌||◌, ◌==◌, nat_lt}
+use Rattle.std.specs.Prelude.{ℕ, zero, suc, ◌+◌, ◌%◌, ◌-◌, Bool, List, ◌++◌, length, replicate, codes, cond, not, ◌&&◌, ◌||◌, ◌==◌, nat_lt}
+use Rattle.std.specs.Fmt.{decimal}
 use Rattle.calendar.specs.declared.date.Date.{Date}
 
 -- every fourth year, but of the full hundreds only every fourth
@@ -36,3 +37,11 @@ new_year y = on y 1 1
 -- the date of a day, day 0 being 1 January 2000
 abbrev pub date_of : ℕ → Date
 date_of day = after day (new_year 2000)
+
+-- a number with zeros, whose byte is 48, ahead of it to so many digits
+abbrev pub zero_filled : ℕ → ℕ → List ℕ
+zero_filled digits n = replicate (digits - length (decimal n)) 48 ++ decimal n
+
+-- year, month and day, as 2000-01-04, by its bytes
+abbrev pub date_text : Date → List ℕ
+date_text t = zero_filled 4 t.year ++ (codes "-" ++ (zero_filled 2 t.month ++ (codes "-" ++ zero_filled 2 t.day)))

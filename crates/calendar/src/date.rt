@@ -1,6 +1,6 @@
 // Days as dates of the Gregorian calendar.
-ghost use Rattle.std.specs.Prelude.{◌≡◌, ◌<◌};
-ghost use Rattle.calendar.specs.Dates.{is_leap, month_length, year_length, date_of, new_year, after};
+ghost use Rattle.std.specs.Prelude.{◌≡◌, ◌<◌, Some};
+ghost use Rattle.calendar.specs.Dates.{is_leap, month_length, year_length, date_of, new_year, after, date_text};
 
 use std::fmt;
 
@@ -75,10 +75,9 @@ impl Date {
 
 // Year, month and day, as 2000-01-04.
 impl fmt::Display for Date {
+    ghost output = { λ t. Some (date_text t) };
+
     fn fmt<W: fmt::Write>(&self, f: &mut fmt::Formatter<W>) -> fmt::Result {
-        let year = self.year;
-        let month = self.month;
-        let day = self.day;
-        write!(f, "{year:04}-{month:02}-{day:02}")
+        write!(f, "{:04}-{:02}-{:02}", self.year, self.month, self.day)
     }
 }
