@@ -47,6 +47,7 @@ fn year_day_of(day: u16) -> YearDay
 {
     let mut year = 2000;
     let mut over = day;
+    // Years differ in length, so they are taken off one at a time.
     while over >= year_length(year) {
         over -= year_length(year);
         year += 1;
@@ -61,6 +62,7 @@ impl Date {
     {
         let YearDay { year, mut over } = year_day_of(day);
         let mut month = 1;
+        // So are months, whose length hangs on the year too; one loop for both would not say which of the two it counts.
         while over >= month_length(year, month) {
             over -= month_length(year, month);
             month += 1;
