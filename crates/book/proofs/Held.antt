@@ -40,11 +40,11 @@ hold_from n s trains stops k =
     (and_from _ _ k.no_gap k.are_sound)
 
 pub record EntryHeld (e : Entry) (trains : List TrainRow) (stops : List StopRow) : Type 0 where
-  pub book : holds e.trains e.stops trains stops ≡ true
-  pub few_trains : e.trains < 512
-  pub trains_fit : e.trains < length trains
-  pub few_stops : e.stops + e.taken ≤ 4096
-  pub stops_fit : e.stops + e.taken ≤ length stops
+  pub book : holds e.book.trains e.book.stops trains stops ≡ true
+  pub few_trains : e.book.trains < 512
+  pub trains_fit : e.book.trains < length trains
+  pub few_stops : e.book.stops + e.taken ≤ 4096
+  pub stops_fit : e.book.stops + e.taken ≤ length stops
   pub few_taken : few (open_stops e stops) ≡ true
   pub taken_in_order : in_order None (open_stops e stops) ≡ true
 
@@ -70,15 +70,15 @@ entry_held e trains stops h =
 pub entry_hold_from : (e : Entry) (trains : List TrainRow) (stops : List StopRow) → EntryHeld e trains stops → entry_holds e trains stops ≡ true
 unfolding entry_holds
 entry_hold_from e trains stops k =
-    and_from _ _ (and_from _ _ (and_from _ _ (and_from _ _ (and_from _ _ k.book (lt-ltb e.trains 512 k.few_trains)) (lt-ltb e.trains (length trains) k.trains_fit))
-    (le-leb (e.stops + e.taken) 4096 k.few_stops)) (le-leb (e.stops + e.taken) (length stops) k.stops_fit))
+    and_from _ _ (and_from _ _ (and_from _ _ (and_from _ _ (and_from _ _ k.book (lt-ltb e.book.trains 512 k.few_trains)) (lt-ltb e.book.trains (length trains) k.trains_fit))
+    (le-leb (e.book.stops + e.taken) 4096 k.few_stops)) (le-leb (e.book.stops + e.taken) (length stops) k.stops_fit))
     (and_from _ _ k.few_taken k.taken_in_order)
 
 pub length_listed : (n : ℕ) (trains : List TrainRow) (stops : List StopRow) → n ≤ length trains → length (listed n trains stops) ≡ n
 length_listed n trains stops h = length-map (take n trains) (train_at stops) ∙ length-take-le n trains h
 
-pub length_open : (e : Entry) (stops : List StopRow) → e.stops + e.taken ≤ length stops → length (open_stops e stops) ≡ e.taken
-length_open e stops h = length-take-le e.taken (drop e.stops stops) (simp length-drop (omega arith))
+pub length_open : (e : Entry) (stops : List StopRow) → e.book.stops + e.taken ≤ length stops → length (open_stops e stops) ≡ e.taken
+length_open e stops h = length-take-le e.taken (drop e.book.stops stops) (simp length-drop (omega arith))
 
 -- rows without a gap hold all the stops up to where they end
 gapless_stops : (at end : ℕ) (rows : List TrainRow) (stops : List StopRow) → end ≤ length stops → gapless at end rows ≡ true → at + all_stops (trains_in rows stops) ≡ end

@@ -49,7 +49,7 @@ module _ (tr sr : ℕ) where
   holds_kept f (Closed b) ts ss k =
       (ap (λ h. cond h (Some (listed b.trains ts ss)) None) k.whole ∙ ap (λ (g : InForce). Some g.trains) (sym k.same), ap (λ (g : InForce). g.opened) k.same)
   holds_kept f (Open e) ts ss k =
-      (ap (λ h. cond h (Some (listed e.trains ts ss, open_train e ss)) None) k.whole ∙ ap (λ (g : InForce). Some (g.trains, open_train e ss)) (sym k.same), ap (λ (g : InForce). g.opened) k.same)
+      (ap (λ h. cond h (Some (listed e.book.trains ts ss, open_train e ss)) None) k.whole ∙ ap (λ (g : InForce). Some (g.trains, open_train e ss)) (sym k.same), ap (λ (g : InForce). g.opened) k.same)
 
 pub every_history_holds : EveryHistoryHolds
 every_history_holds tr sr calls st ts ss before = holds_kept tr sr (in_force tr sr calls) st ts ss (kept tr sr before)

@@ -22,7 +22,7 @@ pub record OpenKept (tr sr : ℕ) (f : InForce) (e : Entry) (ts : List TrainRow)
   pub stop_rows : length ss ≡ sr
   pub whole : entry_holds e ts ss ≡ true
   pub numbered : eqb e.number 0 ≡ false
-  pub same : f ≡ with_open (listed e.trains ts ss) (open_train e ss)
+  pub same : f ≡ with_open (listed e.book.trains ts ss) (open_train e ss)
 
 abbrev pub Kept : ℕ → ℕ → InForce → State → List TrainRow → List StopRow → Type 0
 Kept tr sr f (Closed b) ts ss = ClosedKept tr sr f b ts ss
@@ -46,7 +46,7 @@ unfolding begin_refusal
 begin_same b ts ss n h = rw h refl
 
 pub stop_same : (e : Entry) (ts : List TrainRow) (ss : List StopRow) (s : StopRow) → entry_holds e ts ss ≡ true
-    → stop_refusal e ts ss s ≡ next_fault (length ss) (listed e.trains ts ss) (open_train e ss) s
+    → stop_refusal e ts ss s ≡ next_fault (length ss) (listed e.book.trains ts ss) (open_train e ss) s
 unfolding stop_refusal
 stop_same e ts ss s h = rw h refl
 

@@ -131,7 +131,7 @@ lawful_kept tr sr f (Closed b) ts ss k d =
     subst Lawful (sym e) (lawful b.trains b.stops ts ss k.whole (subst (λ (l : List Train). distinct l ≡ true) e d))
 lawful_kept tr sr f (Open y) ts ss k d =
     let e = ap (λ (g : InForce). g.trains) k.same in
-    subst Lawful (sym e) (lawful y.trains y.stops ts ss (entry_held y ts ss k.whole).book (subst (λ (l : List Train). distinct l ≡ true) e d))
+    subst Lawful (sym e) (lawful y.book.trains y.book.stops ts ss (entry_held y ts ss k.whole).book (subst (λ (l : List Train). distinct l ≡ true) e d))
 
 pub every_history_is_lawful : EveryHistoryIsLawful
 unfolding distinct

@@ -26,8 +26,8 @@ pub gapless_one : (at end : ℕ) (r : TrainRow) → r.first ≡ at → at + r.co
 gapless_one at end r e k = and_from _ _ (eq-eqb r.first at e) (eq-eqb (at + r.count) end k)
 
 -- the stop that is written is the open train's next
-pub open_more : (e : Entry) (ss : List StopRow) (s : StopRow) → e.stops + e.taken < length ss
-    → open_stops (longer e) (set ss (e.stops + e.taken) s) ≡ open_stops e ss ++ (s ∷ [])
+pub open_more : (e : Entry) (ss : List StopRow) (s : StopRow) → e.book.stops + e.taken < length ss
+    → open_stops (longer e) (set ss (e.book.stops + e.taken) s) ≡ open_stops e ss ++ (s ∷ [])
 open_more e ss s h =
-    rw (drop-set-add e.stops ss e.taken s)
-    (take_more_set (drop e.stops ss) e.taken s (simp length-drop (omega arith)))
+    rw (drop-set-add e.book.stops ss e.taken s)
+    (take_more_set (drop e.book.stops ss) e.taken s (simp length-drop (omega arith)))

@@ -37,19 +37,19 @@ withdraw_flat b trains stops n h =
     rw (← h, known_listed n b.trains trains stops fit) refl
 
 -- the slice of an entry's stops
-pub open_part : (e : Entry) (stops : List StopRow) → take ((e.stops + e.taken) - e.stops) (drop e.stops stops) ≡ open_stops e stops
-open_part e stops = let n : (e.stops + e.taken) - e.stops ≡ e.taken = omega arith in rw n refl
+pub open_part : (e : Entry) (stops : List StopRow) → take ((e.book.stops + e.taken) - e.book.stops) (drop e.book.stops stops) ≡ open_stops e stops
+open_part e stops = let n : (e.book.stops + e.taken) - e.book.stops ≡ e.taken = omega arith in rw n refl
 
 abbrev pub stop_tests : Entry → List StopRow → StopRow → Option Refusal
 stop_tests e stops s =
-    or_else (stop_fault (last_of None (open_stops e stops)) s) (when (no_stop_row (length stops) (e.stops + e.taken) e.taken) NoStopRow)
+    or_else (stop_fault (last_of None (open_stops e stops)) s) (when (no_stop_row (length stops) (e.book.stops + e.taken) e.taken) NoStopRow)
 
 pub stop_flat : (e : Entry) (trains : List TrainRow) (stops : List StopRow) (s : StopRow) → true ≡ entry_holds e trains stops
     → stop_refusal e trains stops s ≡ stop_tests e stops s
 unfolding stop_refusal
 stop_flat e trains stops s h =
     let k = entry_held e trains stops (sym h) in
-    rw (← h, all_stops_held e.trains e.stops trains stops k.book, length_open e stops k.stops_fit) refl
+    rw (← h, all_stops_held e.book.trains e.book.stops trains stops k.book, length_open e stops k.stops_fit) refl
 
 pub finish_flat : (e : Entry) (trains : List TrainRow) (stops : List StopRow) → true ≡ entry_holds e trains stops
     → finish_refusal e trains stops ≡ when (not (ended (last_of None (open_stops e stops)))) Unfinished
@@ -83,10 +83,10 @@ begin_passed b trains stops n e =
 
 pub stop_held : (e : Entry) (trains : List TrainRow) (stops : List StopRow) (s : StopRow) → stop_refusal e trains stops s ≡ None → true ≡ entry_holds e trains stops
 unfolding stop_refusal
-stop_held e trains stops s n = whole (entry_holds e trains stops) (listed e.trains trains stops, open_train e stops) (λ x. next_fault (length stops) x.0 x.1 s) n
+stop_held e trains stops s n = whole (entry_holds e trains stops) (listed e.book.trains trains stops, open_train e stops) (λ x. next_fault (length stops) x.0 x.1 s) n
 
 pub stop_passed : (e : Entry) (trains : List TrainRow) (stops : List StopRow) (s : StopRow) → stop_refusal e trains stops s ≡ None
-    → (stop_fault (last_of None (open_stops e stops)) s ≡ None) × (e.taken < 64) × (e.stops + e.taken < 4096) × (e.stops + e.taken < length stops)
+    → (stop_fault (last_of None (open_stops e stops)) s ≡ None) × (e.taken < 64) × (e.book.stops + e.taken < 4096) × (e.book.stops + e.taken < length stops)
 stop_passed e trains stops s n =
     let p = no_fault _ _ (sym (stop_flat e trains stops s (stop_held e trains stops s n)) ∙ n) in
     let q = or_parts _ _ (not_when _ _ p.1) in
@@ -95,7 +95,7 @@ stop_passed e trains stops s n =
 
 pub finish_held : (e : Entry) (trains : List TrainRow) (stops : List StopRow) → finish_refusal e trains stops ≡ None → true ≡ entry_holds e trains stops
 unfolding finish_refusal
-finish_held e trains stops n = whole (entry_holds e trains stops) (listed e.trains trains stops, open_train e stops) (λ x. finish_fault x.1) n
+finish_held e trains stops n = whole (entry_holds e trains stops) (listed e.book.trains trains stops, open_train e stops) (λ x. finish_fault x.1) n
 
 pub finish_passed : (e : Entry) (trains : List TrainRow) (stops : List StopRow) → finish_refusal e trains stops ≡ None → ended (last_of None (open_stops e stops)) ≡ true
 finish_passed e trains stops n = not-false _ (not_when _ _ (sym (finish_flat e trains stops (finish_held e trains stops n)) ∙ n))

@@ -22,8 +22,8 @@ agree tr sr f (Closed b) ts ss k =
       λ n. withdraw_same b ts ss n k.whole ∙ ap (λ l. withdraw_fault l n) trains,
     )
 agree tr sr f (Open e) ts ss k =
-    let trains : listed e.trains ts ss ≡ f.trains = sym (ap (λ (g : InForce). g.trains) k.same) in (
-      λ s. stop_same e ts ss s k.whole ∙ ap (λ r. next_fault r (listed e.trains ts ss) (open_train e ss) s) k.stop_rows ∙ ap (λ l. next_fault sr l (open_train e ss) s) trains,
+    let trains : listed e.book.trains ts ss ≡ f.trains = sym (ap (λ (g : InForce). g.trains) k.same) in (
+      λ s. stop_same e ts ss s k.whole ∙ ap (λ r. next_fault r (listed e.book.trains ts ss) (open_train e ss) s) k.stop_rows ∙ ap (λ l. next_fault sr l (open_train e ss) s) trains,
       finish_same e ts ss k.whole,
     )
 

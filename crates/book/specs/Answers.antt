@@ -35,7 +35,7 @@ check_answer b trains stops = ok_unless (check_refusal b trains stops)
 abbrev pub begin_answer : Book → List TrainRow → List StopRow → ℕ → ℕ → ℕ → Result Entry (Refused Book)
 begin_answer b trains stops n c f =
     refused_or (begin_refusal b trains stops n) b
-    (record { trains = b.trains; stops = b.stops; number = n; code = c; features = f; taken = 0; spent = false })
+    (record { book = b; number = n; code = c; features = f; taken = 0; spent = false })
 
 -- ---- stop
 -- a stop row of its parts
@@ -45,29 +45,29 @@ row station arrive depart = record { station = station; arrive = arrive; depart 
 -- the entry with one stop more
 abbrev pub longer : Entry → Entry
 longer e =
-    record { trains = e.trains; stops = e.stops; number = e.number; code = e.code; features = e.features; taken = e.taken + 1; spent = e.spent }
+    record { book = e.book; number = e.number; code = e.code; features = e.features; taken = e.taken + 1; spent = e.spent }
 
 abbrev pub stop_answer : Entry → List TrainRow → List StopRow → StopRow → Result Entry (Refused Entry)
 stop_answer e trains stops s = refused_or (stop_refusal e trains stops s) e (longer e)
 
 abbrev pub stop_rows : Entry → List TrainRow → List StopRow → StopRow → List StopRow
-stop_rows e trains stops s = unless (stop_refusal e trains stops s) stops (slice_set stops (e.stops + e.taken) s)
+stop_rows e trains stops s = unless (stop_refusal e trains stops s) stops (slice_set stops (e.book.stops + e.taken) s)
 
 -- ---- finish
 -- the row of the train that the entry has filled in
 abbrev pub finished_row : Entry → TrainRow
-finished_row e = record { number = e.number; code = e.code; features = e.features; first = e.stops; count = e.taken }
+finished_row e = record { number = e.number; code = e.code; features = e.features; first = e.book.stops; count = e.taken }
 
 abbrev pub finish_answer : Entry → List TrainRow → List StopRow → Result Book (Refused Entry)
 finish_answer e trains stops =
-    refused_or (finish_refusal e trains stops) e (record { trains = e.trains + 1; stops = e.stops + e.taken })
+    refused_or (finish_refusal e trains stops) e (record { trains = e.book.trains + 1; stops = e.book.stops + e.taken })
 
 abbrev pub finish_rows : Entry → List TrainRow → List StopRow → List TrainRow
-finish_rows e trains stops = unless (finish_refusal e trains stops) trains (slice_set trains e.trains (finished_row e))
+finish_rows e trains stops = unless (finish_refusal e trains stops) trains (slice_set trains e.book.trains (finished_row e))
 
 -- ---- abandon
 abbrev pub abandon_answer : Entry → Book
-abandon_answer e = record { trains = e.trains; stops = e.stops }
+abandon_answer e = e.book
 
 -- ---- withdraw
 -- the row of the first train with the number, and the number of rows where there is none

@@ -55,7 +55,7 @@ meaning n s trains stops = cond (holds n s trains stops) (Some (listed n trains 
 
 -- ---- the train that an entry has open
 abbrev pub open_stops : Entry → List StopRow → List StopRow
-open_stops e stops = take e.taken (drop e.stops stops)
+open_stops e stops = take e.taken (drop e.book.stops stops)
 
 abbrev pub open_train : Entry → List StopRow → Train
 open_train e stops = record { number = e.number; code = e.code; features = e.features; stops = open_stops e stops }
@@ -63,10 +63,10 @@ open_train e stops = record { number = e.number; code = e.code; features = e.fea
 -- the book holds, there is a row for the entry's train, and its stops so far fit and break no rule
 unfoldable pub entry_holds : Entry → List TrainRow → List StopRow → Bool
 entry_holds e trains stops =
-    holds e.trains e.stops trains stops && nat_lt e.trains most_trains && nat_lt e.trains (length trains)
-    && nat_le (e.stops + e.taken) most_stops && nat_le (e.stops + e.taken) (length stops)
+    holds e.book.trains e.book.stops trains stops && nat_lt e.book.trains most_trains && nat_lt e.book.trains (length trains)
+    && nat_le (e.book.stops + e.taken) most_stops && nat_le (e.book.stops + e.taken) (length stops)
     && (few (open_stops e stops) && in_order None (open_stops e stops))
 
 -- what the rows of an entry mean: the book's trains and the open train, or nothing where the rows do not hold
 abbrev pub entry_meaning : Entry → List TrainRow → List StopRow → Option (List Train × Train)
-entry_meaning e trains stops = cond (entry_holds e trains stops) (Some (listed e.trains trains stops, open_train e stops)) None
+entry_meaning e trains stops = cond (entry_holds e trains stops) (Some (listed e.book.trains trains stops, open_train e stops)) None

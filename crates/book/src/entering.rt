@@ -10,6 +10,7 @@ use crate::judging::{refusal_of_begin, refusal_of_finish, refusal_of_stop};
 use crate::refusal::Refused;
 use crate::rows::{Departure, StopRow, TrainRow};
 use crate::state::{Book, Entry};
+use std::mem;
 
 impl Book {
     // Begins a train with this number, calendar code and features. Refused under 1 to 4, with the book as it was.
@@ -30,8 +31,7 @@ impl Book {
                 refusal,
             }),
             None => Ok(Entry {
-                trains: self.trains,
-                stops: self.stops,
+                book: self,
                 number,
                 code,
                 features,
@@ -67,7 +67,7 @@ impl Entry {
                 refusal,
             }),
             None => {
-                stops[self.stops as usize + self.taken as usize] = next;
+                stops[self.book.stops as usize + self.taken as usize] = next;
                 self.taken += 1;
                 Ok(self)
             }
@@ -91,7 +91,7 @@ impl Entry {
                     number: self.number,
                     code: self.code,
                     features: self.features,
-                    first: self.stops,
+                    first: self.book.stops,
                     count: self.taken,
                 };
                 let book = self.abandon();
@@ -110,9 +110,6 @@ impl Entry {
         ensures history { (ts : List TrainRow) (ss : List StopRow) → LeadsOn (Open self) ts ss abandons (Closed result) ts ss }
     {
         self.spent = true;
-        Book {
-            trains: self.trains,
-            stops: self.stops,
-        }
+        mem::replace(&mut self.book, Book::new())
     }
 }

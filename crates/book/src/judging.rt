@@ -57,7 +57,7 @@ pub fn refusal_of_stop(
     if !hold_entry(entry, trains, stops) {
         return Some(Refusal::Damaged);
     }
-    let first = entry.stops as usize;
+    let first = entry.book.stops as usize;
     let end = first + entry.taken as usize;
     if let Some(fault) = fault_of_stop(last_of(&stops[first..end]), row) {
         return Some(fault);
@@ -77,7 +77,7 @@ pub fn refusal_of_finish(entry: &Entry, trains: &[TrainRow], stops: &[StopRow]) 
     if !hold_entry(entry, trains, stops) {
         return Some(Refusal::Damaged);
     }
-    let first = entry.stops as usize;
+    let first = entry.book.stops as usize;
     let end = first + entry.taken as usize;
     if !has_ended(last_of(&stops[first..end])) {
         return Some(Refusal::Unfinished);

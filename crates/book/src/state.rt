@@ -25,15 +25,15 @@ impl Book {
     }
 }
 
-// A train that is being filled in. It holds the counts of the book that began it, and `taken` stops behind the book's.
+// A train that is being filled in. It holds the book that began it, and has `taken` stops behind the book's.
 // It cannot be forgotten: it may be let go only once it is spent, which `finish` and `abandon` do.
 pub struct Entry {
-    pub(crate) trains: u16,
-    pub(crate) stops: u16,
+    pub(crate) book: Book,
     pub(crate) number: u16,
     pub(crate) code: u8,
     pub(crate) features: u16,
     pub(crate) taken: u8,
+    // A flag, so that it takes a proof to let an entry go: the gate shows that wrong code which forgets one is not proved.
     pub(crate) spent: bool,
 }
 
@@ -42,8 +42,7 @@ impl Drop for Entry {
         requires { self.spent ≡ true }
     {
         let Entry {
-            trains: _,
-            stops: _,
+            book: _,
             number: _,
             code: _,
             features: _,

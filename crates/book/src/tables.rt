@@ -45,13 +45,13 @@ pub fn hold(trains_used: u16, stops_used: u16, trains: &[TrainRow], stops: &[Sto
 pub fn hold_entry(entry: &Entry, trains: &[TrainRow], stops: &[StopRow]) -> bool
     ensures { result ≡ entry_holds entry.now trains.now stops.now }
 {
-    if !hold(entry.trains, entry.stops, trains, stops) {
+    if !hold(entry.book.trains, entry.book.stops, trains, stops) {
         return false;
     }
-    if entry.trains >= MOST_TRAINS || entry.trains as usize >= trains.len() {
+    if entry.book.trains >= MOST_TRAINS || entry.book.trains as usize >= trains.len() {
         return false;
     }
-    let first = entry.stops as usize;
+    let first = entry.book.stops as usize;
     let end = first + entry.taken as usize;
     if end > MOST_STOPS as usize || end > stops.len() {
         return false;
