@@ -1,4 +1,6 @@
 // The rows of the two tables.
+ghost use Rattle.std.specs.Prelude.{◌≡◌, Some, None};
+ghost use Rattle.book.specs.Answers.{row};
 
 // When a train leaves a stop, and the fare in cents to the next; they come together.
 #[derive(Clone, Copy, PartialEq, Eq, Debug)]
@@ -32,6 +34,39 @@ impl StopRow {
         arrive: None,
         depart: None,
     };
+
+    // A train's first stop, which has no arrival.
+    pub const fn first(station: u16, depart: Departure) -> StopRow
+        ensures { result ≡ row station None (Some depart) }
+    {
+        StopRow {
+            station,
+            arrive: None,
+            depart: Some(depart),
+        }
+    }
+
+    // A stop between the first and the last.
+    pub const fn through(station: u16, arrival: u16, departure: Departure) -> StopRow
+        ensures { result ≡ row station (Some arrival) (Some departure) }
+    {
+        StopRow {
+            station,
+            arrive: Some(arrival),
+            depart: Some(departure),
+        }
+    }
+
+    // A train's last stop, which has no departure.
+    pub const fn last(station: u16, arrive: u16) -> StopRow
+        ensures { result ≡ row station (Some arrive) None }
+    {
+        StopRow {
+            station,
+            arrive: Some(arrive),
+            depart: None,
+        }
+    }
 }
 
 impl TrainRow {
