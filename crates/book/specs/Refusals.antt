@@ -1,5 +1,5 @@
 -- Why a call is refused: the earliest listed reason, and its number.
-use Rattle.std.specs.Prelude.{ℕ, ◌+◌, Bool, not, ◌||◌, List, length, Some, None, Option, ◌==◌, nat_le}
+use Rattle.std.specs.Prelude.{ℕ, ◌+◌, Bool, not, ◌||◌, List, length, Some, None, Option, codes, ◌==◌, nat_le}
 use Rattle.book.specs.Limits.{most_stops_of_train, most_trains, most_stops}
 use Rattle.book.specs.Stops.{when, or_else, stop_fault, ended, last_of}
 use Rattle.book.specs.Trains.{Train, known, all_stops, meaning, entry_meaning}
@@ -24,6 +24,21 @@ number BadTime = 9
 number NoStopRow = 10
 number Unfinished = 11
 number UnknownNumber = 12
+
+-- what is said of each, by its bytes
+abbrev pub words : Refusal → List ℕ
+words Damaged = codes "the tables do not hold what the book says"
+words ZeroNumber = codes "a train's number is not 0"
+words KnownNumber = codes "the number is in the book"
+words NoTrainRow = codes "there is no room for another train"
+words PastLast = codes "the train has come to its last stop"
+words NoStation = codes "a station is at most 1023"
+words SameStation = codes "the station is that of the stop before"
+words WrongTimes = codes "the first stop has a departure alone, a later one an arrival"
+words BadTime = codes "a time is above 2879 or out of order"
+words NoStopRow = codes "there is no room for another stop"
+words Unfinished = codes "the train has not come to a last stop"
+words UnknownNumber = codes "no train has the number"
 
 -- ---- over a plain list of trains
 -- `rows` is the length of the train table

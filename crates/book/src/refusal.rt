@@ -1,6 +1,9 @@
 // Why a call is refused.
-ghost use Rattle.std.specs.Prelude.{◌≡◌};
-ghost use Rattle.book.specs.Refusals.{number};
+ghost use Rattle.std.specs.Prelude.{◌≡◌, Some};
+ghost use Rattle.book.specs.Refusals.{number, words};
+
+use std::error::Error;
+use std::fmt;
 
 // In the order in which they are looked for.
 #[derive(Clone, Copy, PartialEq, Eq, Debug)]
@@ -58,3 +61,29 @@ impl Refusal {
         }
     }
 }
+
+impl fmt::Display for Refusal {
+    ghost output = { λ refusal. Some (words refusal) };
+
+    fn fmt<W: fmt::Write>(&self, f: &mut fmt::Formatter<W>) -> fmt::Result {
+        match self {
+            Refusal::Damaged => write!(f, "the tables do not hold what the book says"),
+            Refusal::ZeroNumber => write!(f, "a train's number is not 0"),
+            Refusal::KnownNumber => write!(f, "the number is in the book"),
+            Refusal::NoTrainRow => write!(f, "there is no room for another train"),
+            Refusal::PastLast => write!(f, "the train has come to its last stop"),
+            Refusal::NoStation => write!(f, "a station is at most 1023"),
+            Refusal::SameStation => write!(f, "the station is that of the stop before"),
+            Refusal::WrongTimes => write!(
+                f,
+                "the first stop has a departure alone, a later one an arrival"
+            ),
+            Refusal::BadTime => write!(f, "a time is above 2879 or out of order"),
+            Refusal::NoStopRow => write!(f, "there is no room for another stop"),
+            Refusal::Unfinished => write!(f, "the train has not come to a last stop"),
+            Refusal::UnknownNumber => write!(f, "no train has the number"),
+        }
+    }
+}
+
+impl Error for Refusal {}
