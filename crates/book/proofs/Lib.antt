@@ -14,7 +14,6 @@ mod Pushed
 mod RefusalTests
 mod RefusalsAgree
 mod Removed
-mod Shift
 mod SoundIsRules
 mod StopOrder
 mod Walk

@@ -1,5 +1,5 @@
 // Rows that are taken out of a table: those after them move forward.
-ghost use Rattle.std.specs.Prelude.{◌≡◌, ℕ, ◌+◌, ◌<◌, ◌≤◌, length};
+ghost use Rattle.std.specs.Prelude.{◌≡◌, ℕ, ◌+◌, ◌<◌, ◌≤◌, length, map};
 ghost use Rattle.book.specs.Answers.{closed_up, forward, train_row};
 
 use crate::rows::{StopRow, TrainRow};
@@ -10,9 +10,7 @@ pub fn take_out_stops(stops: &mut [StopRow], at: usize, count: usize, used: usiz
     requires fit { used ≤ length stops.old }
     ensures { stops.new ≡ closed_up (λ s. s) at count used stops.old }
 {
-    for i in at..used - count {
-        stops[i] = stops[i + count];
-    }
+    stops.copy_within(at + count..used, at);
 }
 
 // Takes the row `at` out of the first `used` train rows, and tells those after it that their stops moved forward by `by`.
@@ -22,9 +20,16 @@ pub fn take_out_train(trains: &mut [TrainRow], at: usize, used: usize, by: u16)
     requires later { (k : ℕ) → at < k → k < used → by ≤ (train_row k trains.old).first }
     ensures { trains.new ≡ closed_up (forward by) at 1 used trains.old }
 {
-    for i in at..used - 1 {
-        let mut row = trains[i + 1];
+    trains.copy_within(at + 1..used, at);
+    move_forward(&mut trains[at..used - 1], by);
+}
+
+// The stops of these trains moved forward by `by`.
+fn move_forward(rows: &mut [TrainRow], by: u16)
+    requires { (k : ℕ) → k < length rows.old → by ≤ (train_row k rows.old).first }
+    ensures { rows.new ≡ map (forward by) rows.old }
+{
+    for row in rows.iter_mut() {
         row.first -= by;
-        trains[i] = row;
     }
 }
