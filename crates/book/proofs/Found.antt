@@ -1,14 +1,14 @@
 -- What holds of the row that `withdraw` takes out.
-use Rattle.std.proofs.Common.{◌≡◌, ℕ, ◌+◌, ◌-◌, ◌<◌, ◌≤◌, List, length, take, None, sym, arith, length-take-le, get_or-take}
+use Rattle.std.proofs.Common.{◌≡◌, ℕ, ◌+◌, ◌-◌, ◌<◌, ◌≤◌, List, length, take, None, Ok, sym, arith, length-take-le, get_or-take}
 use Rattle.book.specs.declared.rows.StopRow.{StopRow}
 use Rattle.book.specs.declared.rows.TrainRow.{TrainRow}
 use Rattle.book.specs.declared.state.Book.{Book}
-use Rattle.book.specs.Answers.{place, train_row}
+use Rattle.book.specs.Answers.{given_unless, place, train_row}
 use Rattle.book.specs.Refusals.{withdraw_refusal}
 use Rattle.book.proofs.Walk.{no_row}
 use Rattle.book.proofs.Held.{Held, held}
 use Rattle.book.proofs.Gaps.{row_within, row_later}
-use Rattle.book.proofs.RefusalTests.{withdraw_held, withdraw_passed}
+use Rattle.book.proofs.RefusalTests.{given, withdraw_held, withdraw_passed}
 
 pub record Found (b : Book) (trains : List TrainRow) (stops : List StopRow) (k : ℕ) : Type 0 where
   pub book : Held b.trains b.stops trains stops
@@ -33,7 +33,8 @@ module _ (b : Book) (trains : List TrainRow) (stops : List StopRow) (n : ℕ) (p
             rw (same, other) at (row_later 0 b.stops (take b.trains trains) k i h.no_gap more (omega arith));
       }
 
-  pub found : (k : ℕ) → k ≡ place n (take (b.trains - 0) trains) → Found b trains stops k
-  found k e =
-      let z : b.trains - 0 ≡ b.trains = omega arith in
-      rw (e, z) found_place
+pub found : (b : Book) (trains : List TrainRow) (stops : List StopRow) (n k : ℕ)
+    → Ok k ≡ given_unless (withdraw_refusal b trains stops n) (place n (take b.trains trains)) → Found b trains stops k
+found b trains stops n k e =
+    let g = given _ _ _ e in
+    rw g.1 (found_place b trains stops n g.0)

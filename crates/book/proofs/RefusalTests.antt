@@ -1,5 +1,5 @@
 -- Each refusal over the numbers that the code compares, where the tables hold.
-use Rattle.std.proofs.Common.{◌≡◌, ℕ, ◌+◌, ◌-◌, ◌<◌, ◌≤◌, Bool, true, false, cond, not, ◌||◌, eqb, ltb, leb, List, length, take, drop, Some, None, Option, sym, refl, ap, ◌∙◌, arith, length-take-le}
+use Rattle.std.proofs.Common.{◌≡◌, ℕ, ◌+◌, ◌-◌, ◌<◌, ◌≤◌, Bool, true, false, cond, not, ◌||◌, eqb, ltb, leb, List, length, take, drop, is_some, ok_or, Some, None, Ok, Err, Option, sym, refl, ap, ◌∙◌, arith, length-take-le}
 use Rattle.book.specs.declared.rows.StopRow.{StopRow}
 use Rattle.book.specs.declared.rows.TrainRow.{TrainRow}
 use Rattle.book.specs.declared.state.Book.{Book}
@@ -8,37 +8,44 @@ use Rattle.book.specs.declared.refusal.Refusal.{Refusal}
 use Rattle.book.specs.declared.refusal.Refusal.TheVariants.{ZeroNumber, KnownNumber, NoTrainRow, NoStopRow, Unfinished, UnknownNumber}
 use Rattle.book.specs.Stops.{when, or_else, stop_fault, ended, last_of}
 use Rattle.book.specs.Trains.{listed, open_stops, holds, entry_holds, known, open_train}
-use Rattle.book.specs.Answers.{place}
-use Rattle.book.specs.Refusals.{no_stop_row, or_damaged, begin_fault, next_fault, finish_fault, withdraw_fault, begin_refusal, stop_refusal, finish_refusal, withdraw_refusal}
+use Rattle.book.specs.Answers.{ok_unless, given_unless, place, place_if_any}
+use Rattle.book.specs.Refusals.{no_stop_row, or_damaged, begin_fault, next_fault, finish_fault, withdraw_fault, check_refusal, begin_refusal, stop_refusal, finish_refusal, withdraw_refusal}
 use Rattle.std.proofs.lemmas.Bool.{ltb-true, not-false, or_parts, leb-false}
 use Rattle.book.proofs.Held.{held, entry_held, length_listed, length_open, all_stops_held}
-use Rattle.book.proofs.Places.{known_place}
+use Rattle.book.proofs.Places.{known_place, place_if_any_is, known_found}
 
-pub known_listed : (n : ℕ) (used : ℕ) (trains : List TrainRow) (stops : List StopRow) → used ≤ length trains → known n (listed used trains stops) ≡ ltb (place n (take used trains)) used
-known_listed n used trains stops h = known_place n (take used trains) stops ∙ ap (ltb (place n (take used trains))) (length-take-le used trains h)
-
--- `k` is the number's place, of `used` rows, in a table of `rows`
-abbrev pub begin_tests : (n k used rows : ℕ) → Option Refusal
-begin_tests n k used rows =
-    or_else (when (eqb n 0) ZeroNumber) (or_else (when (ltb k used) KnownNumber) (when (leb 512 used || leb rows used) NoTrainRow))
+abbrev pub begin_tests : (n used rows : ℕ) (found : Bool) → Option Refusal
+begin_tests n used rows found =
+    or_else (when (eqb n 0) ZeroNumber) (or_else (when found KnownNumber) (when (leb 512 used || leb rows used) NoTrainRow))
 
 pub begin_flat : (b : Book) (trains : List TrainRow) (stops : List StopRow) (n : ℕ) → true ≡ holds b.trains b.stops trains stops
-    → begin_refusal b trains stops n ≡ begin_tests n (place n (take b.trains trains)) b.trains (length trains)
+    → begin_refusal b trains stops n ≡ begin_tests n b.trains (length trains) (is_some (place_if_any n (take b.trains trains)))
 unfolding begin_refusal
 begin_flat b trains stops n h =
     let fit = (held b.trains b.stops trains stops (sym h)).trains_fit in
-    rw (← h, known_listed n b.trains trains stops fit, length_listed b.trains trains stops fit) refl
+    rw (← h, known_found n (take b.trains trains) stops, length_listed b.trains trains stops fit) refl
 
 pub withdraw_flat : (b : Book) (trains : List TrainRow) (stops : List StopRow) (n : ℕ) → true ≡ holds b.trains b.stops trains stops
     → withdraw_refusal b trains stops n ≡ when (not (ltb (place n (take b.trains trains)) b.trains)) UnknownNumber
 unfolding withdraw_refusal
 withdraw_flat b trains stops n h =
     let fit = (held b.trains b.stops trains stops (sym h)).trains_fit in
-    rw (← h, known_listed n b.trains trains stops fit) refl
+    let len = ap (ltb (place n (take b.trains trains))) (length-take-le b.trains trains fit) in
+    rw (← h, known_place n (take b.trains trains) stops, len) refl
 
--- the slice of an entry's stops
-pub open_part : (e : Entry) (stops : List StopRow) → take ((e.book.stops + e.taken) - e.book.stops) (drop e.book.stops stops) ≡ open_stops e stops
-open_part e stops = let n : (e.book.stops + e.taken) - e.book.stops ≡ e.taken = omega arith in rw n refl
+-- the row that is found is the one that is withdrawn
+pub found_or : (b : Bool) (k : ℕ) → ok_or (cond b (Some k) None) UnknownNumber ≡ given_unless (when (not b) UnknownNumber) k
+found_or true k = refl
+found_or false k = refl
+
+pub withdraw_found : (b : Book) (trains : List TrainRow) (stops : List StopRow) (n : ℕ) → true ≡ holds b.trains b.stops trains stops
+    → ok_or (place_if_any n (take b.trains trains)) UnknownNumber ≡ given_unless (withdraw_refusal b trains stops n) (place n (take b.trains trains))
+withdraw_found b trains stops n h =
+    let k = place n (take b.trains trains) in
+    let fit = (held b.trains b.stops trains stops (sym h)).trains_fit in
+    let len = length-take-le b.trains trains fit in
+    let found : place_if_any n (take b.trains trains) ≡ cond (ltb k b.trains) (Some k) None = place_if_any_is n (take b.trains trains) ∙ ap (λ (m : ℕ). cond (ltb k m) (Some k) None) len in
+    rw (found, withdraw_flat b trains stops n h) (found_or (ltb k b.trains) k)
 
 abbrev pub stop_tests : Entry → List StopRow → StopRow → Option Refusal
 stop_tests e stops s =
@@ -55,6 +62,45 @@ pub finish_flat : (e : Entry) (trains : List TrainRow) (stops : List StopRow) �
     → finish_refusal e trains stops ≡ when (not (ended (last_of None (open_stops e stops)))) Unfinished
 unfolding finish_refusal
 finish_flat e trains stops h = rw (← h) refl
+
+-- ---- what an answer says of the refusal
+pub refused_by : (r : Option Refusal) (x : Refusal) → Err x ≡ ok_unless r → r ≡ Some x
+refused_by None x e = let z : ◌≡◌ {A = ℕ} 0 1 = cc in absurd (omega arith)
+refused_by (Some y) x e = cc
+
+pub not_refused : (r : Option Refusal) → Ok tt ≡ ok_unless r → r ≡ None
+not_refused None e = refl
+not_refused (Some y) e = let z : ◌≡◌ {A = ℕ} 0 1 = cc in absurd (omega arith)
+
+pub withheld_by : {A : Type 0} (r : Option Refusal) (a : A) (x : Refusal) → Err x ≡ given_unless r a → r ≡ Some x
+withheld_by None a x e = let z : ◌≡◌ {A = ℕ} 0 1 = cc in absurd (omega arith)
+withheld_by (Some y) a x e = cc
+
+pub given : {A : Type 0} (r : Option Refusal) (a b : A) → Ok b ≡ given_unless r a → (r ≡ None) × (b ≡ a)
+given None a b e = (refl, cc)
+given (Some y) a b e = let z : ◌≡◌ {A = ℕ} 0 1 = cc in absurd (omega arith)
+
+-- ---- what `check` finds, the calls find first
+checked : {A : Type 0} (b : Bool) (a : A) (fault : A → Option Refusal) (r : Refusal) → ok_unless (or_damaged (cond b (Some a) None) (λ (x : A). None)) ≡ Err r → or_damaged (cond b (Some a) None) fault ≡ Some r
+checked true a fault r e = let z : ◌≡◌ {A = ℕ} 0 1 = cc in absurd (omega arith)
+checked false a fault r e = cc
+
+sound_when : {A : Type 0} (b : Bool) (a : A) → ok_unless (or_damaged (cond b (Some a) None) (λ (x : A). None)) ≡ Ok tt → true ≡ b
+sound_when true a e = refl
+sound_when false a e = let z : ◌≡◌ {A = ℕ} 0 1 = cc in absurd (omega arith)
+
+module _ (b : Book) (trains : List TrainRow) (stops : List StopRow) where
+  pub check_passed : ok_unless (check_refusal b trains stops) ≡ Ok tt → true ≡ holds b.trains b.stops trains stops
+  unfolding check_refusal
+  check_passed e = sound_when (holds b.trains b.stops trains stops) (listed b.trains trains stops) e
+
+  pub begin_damaged : (n : ℕ) (r : Refusal) → ok_unless (check_refusal b trains stops) ≡ Err r → begin_refusal b trains stops n ≡ Some r
+  unfolding check_refusal begin_refusal
+  begin_damaged n r e = checked (holds b.trains b.stops trains stops) (listed b.trains trains stops) (λ ts. begin_fault (length trains) ts n) r e
+
+  pub withdraw_damaged : (n : ℕ) (r : Refusal) → ok_unless (check_refusal b trains stops) ≡ Err r → withdraw_refusal b trains stops n ≡ Some r
+  unfolding check_refusal withdraw_refusal
+  withdraw_damaged n r e = checked (holds b.trains b.stops trains stops) (listed b.trains trains stops) (λ ts. withdraw_fault ts n) r e
 
 -- ---- what a call that is not refused may rely on
 whole : {A : Type 0} (b : Bool) (a : A) (fault : A → Option Refusal) → or_damaged (cond b (Some a) None) fault ≡ None → true ≡ b

@@ -1,5 +1,5 @@
 -- What each call answers, and what it leaves in the tables.
-use Rattle.std.specs.Prelude.{ℕ, suc, ◌+◌, ◌-◌, false, cond, List, [], ◌∷◌, ◌++◌, map, take, drop, Some, None, Ok, Err, Option, Result, ◌==◌, slice_index_or, slice_set}
+use Rattle.std.specs.Prelude.{ℕ, suc, ◌+◌, ◌-◌, false, cond, List, [], ◌∷◌, ◌++◌, map, take, drop, position, Some, None, Ok, Err, Option, Result, ◌==◌, slice_index_or, slice_set}
 use Rattle.book.specs.Refusals.{check_refusal, begin_refusal, stop_refusal, finish_refusal, withdraw_refusal}
 use Rattle.book.specs.declared.refusal.Refusal.{Refusal}
 use Rattle.book.specs.declared.refusal.Refused.{Refused}
@@ -27,6 +27,11 @@ new_book = record { trains = 0; stops = 0 }
 abbrev pub ok_unless : Option Refusal → Result (Unit {0}) Refusal
 ok_unless (Some reason) = Err reason
 ok_unless None = Ok tt
+
+-- what was asked for, unless the call is refused
+abbrev pub given_unless : {A : Type 0} → Option Refusal → A → Result A Refusal
+given_unless (Some reason) given = Err reason
+given_unless None given = Ok given
 
 abbrev pub check_answer : Book → List TrainRow → List StopRow → Result (Unit {0}) Refusal
 check_answer b trains stops = ok_unless (check_refusal b trains stops)
@@ -69,11 +74,19 @@ finish_rows e trains stops = unless (finish_refusal e trains stops) trains (slic
 abbrev pub abandon_answer : Entry → Book
 abandon_answer e = e.book
 
+-- a refused entry is abandoned
+abbrev pub abandoned : Refused Entry → Refused Book
+abandoned r = record { back = abandon_answer r.back; refusal = r.refusal }
+
 -- ---- withdraw
 -- the row of the first train with the number, and the number of rows where there is none
 abbrev pub place : ℕ → List TrainRow → ℕ
 place n [] = 0
 place n (r ∷ rs) = cond (r.number == n) 0 (suc (place n rs))
+
+-- the same, and nothing where there is none
+abbrev pub place_if_any : ℕ → List TrainRow → Option ℕ
+place_if_any n rows = position (λ (r : TrainRow). r.number == n) rows
 
 -- the row at k, and a row of zeros past the end
 abbrev pub train_row : ℕ → List TrainRow → TrainRow

@@ -1,12 +1,11 @@
 // A train is entered: begun, filled in stop by stop, and finished or abandoned.
 ghost use Rattle.std.specs.Prelude.{◌≡◌, List};
-ghost use Rattle.book.specs.Answers.{begin_answer, row, stop_answer, stop_rows, finish_answer, finish_rows, abandon_answer};
+ghost use Rattle.book.specs.Answers.{begin_answer, row, stop_answer, stop_rows, finish_answer, finish_rows, abandon_answer, abandoned};
 ghost use Rattle.book.specs.Histories.{Open, Closed, begun, stopped, finished, LeadsOn};
 ghost use Rattle.book.specs.PlainList.{begins, stops as next_stop, finishes, abandons};
 ghost use Rattle.book.specs.declared.rows.StopRow.{StopRow};
 ghost use Rattle.book.specs.declared.rows.TrainRow.{TrainRow};
 
-use crate::judging::{refusal_of_begin, refusal_of_finish, refusal_of_stop};
 use crate::refusal::Refused;
 use crate::rows::{Departure, StopRow, TrainRow};
 use crate::state::{Book, Entry};
@@ -25,18 +24,18 @@ impl Book {
         ensures answer { result ≡ begin_answer self trains.now stops.now number code features }
         ensures history { LeadsOn (Closed self) trains.now stops.now (begins number code features) (begun result) trains.now stops.now }
     {
-        match refusal_of_begin(&self, trains, stops, number) {
-            Some(refusal) => Err(Refused {
-                back: self,
-                refusal,
-            }),
-            None => Ok(Entry {
+        match self.may_begin(trains, stops, number) {
+            Ok(()) => Ok(Entry {
                 book: self,
                 number,
                 code,
                 features,
                 taken: 0,
                 spent: false,
+            }),
+            Err(refusal) => Err(Refused {
+                back: self,
+                refusal,
             }),
         }
     }
@@ -61,16 +60,16 @@ impl Entry {
             arrive,
             depart,
         };
-        match refusal_of_stop(&self, trains, stops, next) {
-            Some(refusal) => Err(Refused {
-                back: self,
-                refusal,
-            }),
-            None => {
+        match self.may_stop(trains, stops, next) {
+            Ok(()) => {
                 stops[self.book.stops as usize + self.taken as usize] = next;
                 self.taken += 1;
                 Ok(self)
             }
+            Err(refusal) => Err(Refused {
+                back: self,
+                refusal,
+            }),
         }
     }
 
@@ -81,19 +80,9 @@ impl Entry {
         ensures rows { trains.new ≡ finish_rows self trains.old stops.now }
         ensures history { LeadsOn (Open self) trains.old stops.now finishes (finished result) trains.new stops.now }
     {
-        match refusal_of_finish(&self, trains, stops) {
-            Some(refusal) => Err(Refused {
-                back: self,
-                refusal,
-            }),
-            None => {
-                let row = TrainRow {
-                    number: self.number,
-                    code: self.code,
-                    features: self.features,
-                    first: self.book.stops,
-                    count: self.taken,
-                };
+        match self.may_finish(trains, stops) {
+            Ok(()) => {
+                let row = self.row();
                 let book = self.abandon();
                 trains[book.trains as usize] = row;
                 Ok(Book {
@@ -101,6 +90,10 @@ impl Entry {
                     stops: book.stops + row.count as u16,
                 })
             }
+            Err(refusal) => Err(Refused {
+                back: self,
+                refusal,
+            }),
         }
     }
 
@@ -111,5 +104,18 @@ impl Entry {
     {
         self.spent = true;
         mem::replace(&mut self.book, Book::new())
+    }
+}
+
+impl Refused<Entry> {
+    // The same refusal, with the entry abandoned.
+    pub fn abandoned(self) -> Refused<Book>
+        ensures { result ≡ abandoned self }
+    {
+        let Refused { back, refusal } = self;
+        Refused {
+            back: back.abandon(),
+            refusal,
+        }
     }
 }

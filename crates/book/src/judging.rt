@@ -1,104 +1,92 @@
-// Judges a call: whether it is refused, and for which reason, the earliest listed first.
-ghost use Rattle.std.specs.Prelude.{◌≡◌};
-ghost use Rattle.book.specs.Answers.{place};
+// Whether a call may be made; else why not, the earliest listed reason first.
+ghost use Rattle.std.specs.Prelude.{◌≡◌, take};
+ghost use Rattle.book.specs.Answers.{place, place_if_any, ok_unless, given_unless};
 ghost use Rattle.book.specs.Refusals.{begin_refusal, stop_refusal, finish_refusal, withdraw_refusal};
 
 use crate::limits::{MOST_STOPS, MOST_STOPS_OF_TRAIN, MOST_TRAINS};
 use crate::refusal::Refusal;
 use crate::rows::{StopRow, TrainRow};
-use crate::rules::{fault_of_stop, has_ended, last_of};
+use crate::rules::{has_ended, last_of, may_follow};
 use crate::state::{Book, Entry};
-use crate::tables::{hold, hold_entry};
+use crate::tables::hold_entry;
 
-// The row of the first train with the number, and the number of rows where there is none.
-pub fn place_of(number: u16, rows: &[TrainRow]) -> usize
-    ensures { result ≡ place number rows.now }
+// The row of the first train with the number.
+fn place_of(number: u16, rows: &[TrainRow]) -> Option<usize>
+    ensures { result ≡ place_if_any number rows.now }
 {
-    for (i, row) in rows.iter().enumerate() {
-        if row.number == number {
-            return i;
-        }
-    }
-    rows.len()
+    rows.iter().position(|row| row.number == number)
 }
 
-pub fn refusal_of_begin(
-    book: &Book,
-    trains: &[TrainRow],
-    stops: &[StopRow],
-    number: u16,
-) -> Option<Refusal>
-    ensures { result ≡ begin_refusal book.now trains.now stops.now number }
-{
-    if !hold(book.trains, book.stops, trains, stops) {
-        return Some(Refusal::Damaged);
-    }
-    if number == 0 {
-        return Some(Refusal::ZeroNumber);
-    }
-    let used = &trains[0..book.trains as usize];
-    if place_of(number, used) < used.len() {
-        return Some(Refusal::KnownNumber);
-    }
-    if book.trains >= MOST_TRAINS || book.trains as usize >= trains.len() {
-        return Some(Refusal::NoTrainRow);
-    }
-    None
-}
-
-pub fn refusal_of_stop(
-    entry: &Entry,
-    trains: &[TrainRow],
-    stops: &[StopRow],
-    row: StopRow,
-) -> Option<Refusal>
-    ensures { result ≡ stop_refusal entry.now trains.now stops.now row }
-{
-    if !hold_entry(entry, trains, stops) {
-        return Some(Refusal::Damaged);
-    }
-    let first = entry.book.stops as usize;
-    let end = first + entry.taken as usize;
-    if let Some(fault) = fault_of_stop(last_of(&stops[first..end]), row) {
-        return Some(fault);
-    }
-    if entry.taken as usize >= MOST_STOPS_OF_TRAIN
-        || end >= MOST_STOPS as usize
-        || end >= stops.len()
+impl Book {
+    pub(crate) fn may_begin(
+        &self,
+        trains: &[TrainRow],
+        stops: &[StopRow],
+        number: u16,
+    ) -> Result<(), Refusal>
+        ensures { result ≡ ok_unless (begin_refusal self.now trains.now stops.now number) }
     {
-        return Some(Refusal::NoStopRow);
+        self.check(trains, stops)?;
+        let used = self.trains as usize;
+        if number == 0 {
+            return Err(Refusal::ZeroNumber);
+        }
+        if place_of(number, &trains[..used]).is_some() {
+            return Err(Refusal::KnownNumber);
+        }
+        if used >= MOST_TRAINS as usize || used >= trains.len() {
+            return Err(Refusal::NoTrainRow);
+        }
+        Ok(())
     }
-    None
+
+    // The row of the train that is to be withdrawn.
+    pub(crate) fn place_to_withdraw(
+        &self,
+        trains: &[TrainRow],
+        stops: &[StopRow],
+        number: u16,
+    ) -> Result<usize, Refusal>
+        ensures { result ≡ given_unless (withdraw_refusal self.now trains.now stops.now number) (place number (take self.now.trains trains.now)) }
+    {
+        self.check(trains, stops)?;
+        place_of(number, &trains[..self.trains as usize]).ok_or(Refusal::UnknownNumber)
+    }
 }
 
-pub fn refusal_of_finish(entry: &Entry, trains: &[TrainRow], stops: &[StopRow]) -> Option<Refusal>
-    ensures { result ≡ finish_refusal entry.now trains.now stops.now }
-{
-    if !hold_entry(entry, trains, stops) {
-        return Some(Refusal::Damaged);
+impl Entry {
+    pub(crate) fn may_stop(
+        &self,
+        trains: &[TrainRow],
+        stops: &[StopRow],
+        next: StopRow,
+    ) -> Result<(), Refusal>
+        ensures { result ≡ ok_unless (stop_refusal self.now trains.now stops.now next) }
+    {
+        if !hold_entry(self, trains, stops) {
+            return Err(Refusal::Damaged);
+        }
+        let row = self.row();
+        may_follow(last_of(row.stops(stops)), next)?;
+        let end = row.first as usize + row.count as usize;
+        if row.count as usize >= MOST_STOPS_OF_TRAIN
+            || end >= MOST_STOPS as usize
+            || end >= stops.len()
+        {
+            return Err(Refusal::NoStopRow);
+        }
+        Ok(())
     }
-    let first = entry.book.stops as usize;
-    let end = first + entry.taken as usize;
-    if !has_ended(last_of(&stops[first..end])) {
-        return Some(Refusal::Unfinished);
-    }
-    None
-}
 
-pub fn refusal_of_withdraw(
-    book: &Book,
-    trains: &[TrainRow],
-    stops: &[StopRow],
-    number: u16,
-) -> Option<Refusal>
-    ensures { result ≡ withdraw_refusal book.now trains.now stops.now number }
-{
-    if !hold(book.trains, book.stops, trains, stops) {
-        return Some(Refusal::Damaged);
+    pub(crate) fn may_finish(&self, trains: &[TrainRow], stops: &[StopRow]) -> Result<(), Refusal>
+        ensures { result ≡ ok_unless (finish_refusal self.now trains.now stops.now) }
+    {
+        if !hold_entry(self, trains, stops) {
+            return Err(Refusal::Damaged);
+        }
+        if !has_ended(last_of(self.row().stops(stops))) {
+            return Err(Refusal::Unfinished);
+        }
+        Ok(())
     }
-    let used = &trains[0..book.trains as usize];
-    if place_of(number, used) >= used.len() {
-        return Some(Refusal::UnknownNumber);
-    }
-    None
 }

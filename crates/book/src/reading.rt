@@ -30,7 +30,7 @@ impl Book {
         ensures answer { result ≡ check_answer self.now trains.now stops.now }
         ensures history { LeadsOn (Closed self.now) trains.now stops.now reads (Closed self.now) trains.now stops.now }
     {
-        if !hold(self.trains, self.stops, trains, stops) {
+        if !hold(self, trains, stops) {
             return Err(Refusal::Damaged);
         }
         Ok(())

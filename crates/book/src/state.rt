@@ -1,9 +1,11 @@
 // A book, and an entry into it.
 ghost use Rattle.std.specs.Prelude.{◌≡◌, true, List, [], length};
-ghost use Rattle.book.specs.Answers.{new_book};
+ghost use Rattle.book.specs.Answers.{new_book, finished_row};
 ghost use Rattle.book.specs.Histories.{History, Closed};
 ghost use Rattle.book.specs.declared.rows.StopRow.{StopRow};
 ghost use Rattle.book.specs.declared.rows.TrainRow.{TrainRow};
+
+use crate::rows::TrainRow;
 
 // How many rows of the two tables are in use.
 #[derive(Drop)]
@@ -35,6 +37,21 @@ pub struct Entry {
     pub(crate) taken: u8,
     // A flag, so that it takes a proof to let an entry go: the gate shows that wrong code which forgets one is not proved.
     pub(crate) spent: bool,
+}
+
+impl Entry {
+    // The train's row, with the stops that it has so far.
+    pub(crate) fn row(&self) -> TrainRow
+        ensures { result ≡ finished_row self.now }
+    {
+        TrainRow {
+            number: self.number,
+            code: self.code,
+            features: self.features,
+            first: self.book.stops,
+            count: self.taken,
+        }
+    }
 }
 
 impl Drop for Entry {

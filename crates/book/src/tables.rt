@@ -6,7 +6,7 @@ ghost use Rattle.book.specs.Trains.{gapless, all_sound, trains_in, holds, entry_
 use crate::limits::{MOST_STOPS, MOST_STOPS_OF_TRAIN, MOST_TRAINS};
 use crate::rows::{StopRow, TrainRow};
 use crate::rules::{are_in_order, is_sound};
-use crate::state::Entry;
+use crate::state::{Book, Entry};
 
 // Whether the trains of `rows` lie one after another over all the `used` stops, and break no rule.
 fn are_sound(rows: &[TrainRow], used: u16, stops: &[StopRow]) -> bool
@@ -28,34 +28,34 @@ fn are_sound(rows: &[TrainRow], used: u16, stops: &[StopRow]) -> bool
     at == used
 }
 
-// Whether the tables hold a book of so many trains and stops.
-pub fn hold(trains_used: u16, stops_used: u16, trains: &[TrainRow], stops: &[StopRow]) -> bool
-    ensures { result ≡ holds trains_used stops_used trains.now stops.now }
+// Whether the tables hold the book's trains and stops.
+pub fn hold(book: &Book, trains: &[TrainRow], stops: &[StopRow]) -> bool
+    ensures { result ≡ holds book.now.trains book.now.stops trains.now stops.now }
 {
-    if trains_used > MOST_TRAINS || trains_used as usize > trains.len() {
+    if book.trains > MOST_TRAINS || book.trains as usize > trains.len() {
         return false;
     }
-    if stops_used > MOST_STOPS || stops_used as usize > stops.len() {
+    if book.stops > MOST_STOPS || book.stops as usize > stops.len() {
         return false;
     }
-    are_sound(&trains[0..trains_used as usize], stops_used, stops)
+    are_sound(&trains[..book.trains as usize], book.stops, stops)
 }
 
 // Whether the tables hold the entry's book and the entry's own stops, and have a row for its train.
 pub fn hold_entry(entry: &Entry, trains: &[TrainRow], stops: &[StopRow]) -> bool
     ensures { result ≡ entry_holds entry.now trains.now stops.now }
 {
-    if !hold(entry.book.trains, entry.book.stops, trains, stops) {
+    let book = &entry.book;
+    if !hold(book, trains, stops) {
         return false;
     }
-    if entry.book.trains >= MOST_TRAINS || entry.book.trains as usize >= trains.len() {
+    if book.trains >= MOST_TRAINS || book.trains as usize >= trains.len() {
         return false;
     }
-    let first = entry.book.stops as usize;
-    let end = first + entry.taken as usize;
+    let end = book.stops as usize + entry.taken as usize;
     if end > MOST_STOPS as usize || end > stops.len() {
         return false;
     }
-    let taken = &stops[first..end];
+    let taken = entry.row().stops(stops);
     taken.len() <= MOST_STOPS_OF_TRAIN && are_in_order(taken)
 }

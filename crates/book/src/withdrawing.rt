@@ -4,7 +4,6 @@ ghost use Rattle.book.specs.Answers.{withdraw_answer, withdraw_trains, withdraw_
 ghost use Rattle.book.specs.Histories.{Closed, withdrawn_to, LeadsOn};
 ghost use Rattle.book.specs.PlainList.{withdraws};
 
-use crate::judging::{place_of, refusal_of_withdraw};
 use crate::moves::{take_out_stops, take_out_train};
 use crate::refusal::Refused;
 use crate::rows::{StopRow, TrainRow};
@@ -24,16 +23,10 @@ impl Book {
         ensures stops { stops.new ≡ withdraw_stops self trains.old stops.old number }
         ensures history { LeadsOn (Closed self) trains.old stops.old (withdraws number) (withdrawn_to result) trains.new stops.new }
     {
-        match refusal_of_withdraw(&self, trains, stops, number) {
-            Some(refusal) => Err(Refused {
-                back: self,
-                refusal,
-            }),
-            None => {
-                let used = self.trains as usize;
-                let at = place_of(number, &trains[0..used]);
+        match self.place_to_withdraw(trains, stops, number) {
+            Ok(at) => {
                 let row = trains[at];
-                take_out_train(trains, at, used, row.count as u16);
+                take_out_train(trains, at, self.trains as usize, row.count as u16);
                 take_out_stops(
                     stops,
                     row.first as usize,
@@ -45,6 +38,10 @@ impl Book {
                     stops: self.stops - row.count as u16,
                 })
             }
+            Err(refusal) => Err(Refused {
+                back: self,
+                refusal,
+            }),
         }
     }
 }

@@ -4,14 +4,14 @@ use Rattle.book.specs.Stops.{in_order}
 use Rattle.book.proofs.StopOrder.{refused, passed}
 use Rattle.book.proofs.rules.are_in_order.Goals as goal
 
-pub returns-then-is_some : goal.returns-then-is_some
-returns-then-is_some c =
-    sym (refused _ _ _ _ c.fault_of_stop.ensures c.if-is_some.ensures)
+pub returns-then-is_err : goal.returns-then-is_err
+returns-then-is_err c =
+    sym (refused _ _ _ _ c.may_follow.ensures c.if-is_err.ensures.value)
     ∙ sym (at_drop_more (in_order c.loop-stop.before) _ c.loop-stop.stop-index _ (omega arith)) ∙ c.loop-stop.invariant
 
 pub loop-stop-preserved : goal.loop-stop-preserved
 loop-stop-preserved c =
-    sym (passed _ _ _ _ c.fault_of_stop.ensures c.if-is_some.ensures)
+    sym (passed _ _ _ _ c.may_follow.ensures c.if-is_err.ensures.value)
     ∙ sym (at_drop_more (in_order c.loop-stop.before) _ c.loop-stop.stop-index _ (omega arith)) ∙ c.loop-stop.invariant
 
 pub returns : goal.returns

@@ -7,9 +7,9 @@ pub returns-then-not-hold : goal.returns-then-not-hold
 unfolding entry_holds
 returns-then-not-hold c = grind (arith, nat_tests)
 
-pub returns-then-entry-ge-MOST_TRAINS : goal.returns-then-entry-ge-MOST_TRAINS
+pub returns-then-book-ge-MOST_TRAINS : goal.returns-then-book-ge-MOST_TRAINS
 unfolding entry_holds
-returns-then-entry-ge-MOST_TRAINS c = grind (arith, nat_tests)
+returns-then-book-ge-MOST_TRAINS c = grind (arith, nat_tests)
 
 pub returns-then-end : goal.returns-then-end
 unfolding entry_holds

@@ -1,6 +1,6 @@
 use Rattle.std.proofs.Common.{rules}
 use Rattle.book.specs.Stops.{stop_fault}
-use Rattle.book.proofs.rules.fault_of_stop.Goals as goal
+use Rattle.book.proofs.rules.may_follow.Goals as goal
 
 pub returns-then-has_ended : goal.returns-then-has_ended
 unfolding stop_fault
