@@ -8,6 +8,4 @@ mod refusing;
 #[cfg(test)]
 mod rows;
 #[cfg(test)]
-mod sure;
-#[cfg(test)]
 mod withdrawing;

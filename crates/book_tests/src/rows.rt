@@ -1,77 +1,50 @@
 // Rows and calls that the tests share.
-use book::refusal::Refused;
+use book::refusal::{Refusal, Refused};
 use book::rows::{Departure, StopRow, TrainRow};
 use book::state::{Book, Entry};
 
-pub fn stop_row(station: u16, arrive: Option<u16>, depart: Option<u16>) -> StopRow {
-    let depart = match depart {
-        Some(minute) => Some(Departure { minute, fare: 100 }),
-        None => None,
-    };
-    StopRow {
-        station,
-        arrive,
-        depart,
-    }
+// A departure at this minute, for 100 cents.
+pub fn at(minute: u16) -> Departure {
+    Departure { minute, fare: 100 }
 }
 
-pub fn leaves(station: u16, minute: u16) -> StopRow {
-    stop_row(station, None, Some(minute))
-}
-
-pub fn passes(station: u16, arrive: u16, depart: u16) -> StopRow {
-    stop_row(station, Some(arrive), Some(depart))
-}
-
-pub fn ends(station: u16, minute: u16) -> StopRow {
-    stop_row(station, Some(minute), None)
-}
-
-// The entry with the stop, or the number of the refusal and the book that the entry had.
+// The entry with the stop; or the book that the entry had, and why not.
 pub fn next(
     entry: Entry,
     trains: &[TrainRow],
     stops: &mut [StopRow],
     row: StopRow,
-) -> Result<Entry, (Book, u8)> {
-    match entry.stop(trains, stops, row.station, row.arrive, row.depart) {
-        Ok(entry) => Ok(entry),
-        Err(Refused { back, refusal }) => Err((back.abandon(), refusal.number())),
-    }
+) -> Result<Entry, Refused<Book>> {
+    entry
+        .stop(trains, stops, row.station, row.arrive, row.depart)
+        .map_err(Refused::abandoned)
 }
 
-// The book with a train of these stops, or as it was; and the number of the refusal, 0 for none.
+// The book with a train of these stops; or as it was, and why.
 pub fn enter(
     book: Book,
     trains: &mut [TrainRow],
     stops: &mut [StopRow],
     number: u16,
     rows: &[StopRow],
-) -> (Book, u8) {
-    let mut entry = match book.begin(trains, stops, number, 127, 0) {
-        Ok(entry) => entry,
-        Err(Refused { back, refusal }) => return (back, refusal.number()),
-    };
+) -> Result<Book, Refused<Book>> {
+    let mut entry = book.begin(trains, stops, number, 127, 0)?;
     for row in rows {
-        entry = match next(entry, trains, stops, *row) {
-            Ok(entry) => entry,
-            Err(refused) => return refused,
-        };
+        entry = next(entry, trains, stops, *row)?;
     }
-    match entry.finish(trains, stops) {
-        Ok(book) => (book, 0),
-        Err(Refused { back, refusal }) => (back.abandon(), refusal.number()),
+    entry.finish(trains, stops).map_err(Refused::abandoned)
+}
+
+// What a call gives or gives back, and the number under which it was refused, if it was.
+pub fn after<S>(res: Result<S, Refused<S>>) -> (S, Option<u8>) {
+    match res {
+        Ok(given) => (given, None),
+        Err(Refused { back, refusal }) => (back, Some(refusal.number())),
     }
 }
 
-pub fn withdraw(
-    book: Book,
-    trains: &mut [TrainRow],
-    stops: &mut [StopRow],
-    number: u16,
-) -> (Book, u8) {
-    match book.withdraw(trains, stops, number) {
-        Ok(book) => (book, 0),
-        Err(Refused { back, refusal }) => (back, refusal.number()),
-    }
+// Why a call was refused.
+pub fn reason(refused: Refused<Book>) -> Refusal {
+    let Refused { back: _, refusal } = refused;
+    refusal
 }
