@@ -8,7 +8,6 @@ mod KeptHistories
 mod KeptState
 mod KeptWithdrawing
 mod LawfulTrains
-mod Parts
 mod Places
 mod Pushed
 mod RefusalTests

@@ -1,5 +1,5 @@
 -- Each refusal over the numbers that the code compares, where the tables hold.
-use Rattle.std.proofs.Common.{◌≡◌, ℕ, ◌+◌, ◌-◌, ◌<◌, ◌≤◌, Bool, true, false, cond, not, ◌||◌, eqb, ltb, leb, List, length, take, drop, is_some, ok_or, Some, None, Ok, Err, Option, sym, refl, ap, ◌∙◌, arith, length-take-le}
+use Rattle.std.proofs.Common.{◌≡◌, ℕ, ◌+◌, ◌<◌, Bool, true, false, cond, not, ◌||◌, eqb, ltb, leb, List, length, take, is_some, ok_or, Some, None, Ok, Err, Option, Result, sym, refl, ap, ◌∙◌, length-take-le}
 use Rattle.book.specs.declared.rows.StopRow.{StopRow}
 use Rattle.book.specs.declared.rows.TrainRow.{TrainRow}
 use Rattle.book.specs.declared.state.Book.{Book}
@@ -7,11 +7,11 @@ use Rattle.book.specs.declared.state.Entry.{Entry}
 use Rattle.book.specs.declared.refusal.Refusal.{Refusal}
 use Rattle.book.specs.declared.refusal.Refusal.TheVariants.{ZeroNumber, KnownNumber, NoTrainRow, NoStopRow, Unfinished, UnknownNumber}
 use Rattle.book.specs.Stops.{when, or_else, stop_fault, ended, last_of}
-use Rattle.book.specs.Trains.{listed, open_stops, holds, entry_holds, known, open_train}
-use Rattle.book.specs.Answers.{ok_unless, given_unless, place, place_if_any}
+use Rattle.book.specs.Trains.{listed, open_stops, holds, entry_holds, open_train}
+use Rattle.book.specs.Answers.{ok_unless, check_answer, given_unless, place, place_if_any}
 use Rattle.book.specs.Refusals.{no_stop_row, or_damaged, begin_fault, next_fault, finish_fault, withdraw_fault, check_refusal, begin_refusal, stop_refusal, finish_refusal, withdraw_refusal}
 use Rattle.std.proofs.lemmas.Bool.{ltb-true, not-false, or_parts, leb-false}
-use Rattle.book.proofs.Held.{held, entry_held, length_listed, length_open, all_stops_held}
+use Rattle.book.proofs.Held.{held, EntryHeld, entry_held, length_listed, length_open, all_stops_held}
 use Rattle.book.proofs.Places.{known_place, place_if_any_is, known_found}
 
 abbrev pub begin_tests : (n used rows : ℕ) (found : Bool) → Option Refusal
@@ -65,34 +65,38 @@ finish_flat e trains stops h = rw (← h) refl
 
 -- ---- what an answer says of the refusal
 pub refused_by : (r : Option Refusal) (x : Refusal) → Err x ≡ ok_unless r → r ≡ Some x
-refused_by None x e = let z : ◌≡◌ {A = ℕ} 0 1 = cc in absurd (omega arith)
+refused_by None x e = absurd (cc)
 refused_by (Some y) x e = cc
 
 pub not_refused : (r : Option Refusal) → Ok tt ≡ ok_unless r → r ≡ None
 not_refused None e = refl
-not_refused (Some y) e = let z : ◌≡◌ {A = ℕ} 0 1 = cc in absurd (omega arith)
+not_refused (Some y) e = absurd (cc)
 
 pub withheld_by : {A : Type 0} (r : Option Refusal) (a : A) (x : Refusal) → Err x ≡ given_unless r a → r ≡ Some x
-withheld_by None a x e = let z : ◌≡◌ {A = ℕ} 0 1 = cc in absurd (omega arith)
+withheld_by None a x e = absurd (cc)
 withheld_by (Some y) a x e = cc
 
 pub given : {A : Type 0} (r : Option Refusal) (a b : A) → Ok b ≡ given_unless r a → (r ≡ None) × (b ≡ a)
 given None a b e = (refl, cc)
-given (Some y) a b e = let z : ◌≡◌ {A = ℕ} 0 1 = cc in absurd (omega arith)
+given (Some y) a b e = absurd (cc)
 
 -- ---- what `check` finds, the calls find first
 checked : {A : Type 0} (b : Bool) (a : A) (fault : A → Option Refusal) (r : Refusal) → ok_unless (or_damaged (cond b (Some a) None) (λ (x : A). None)) ≡ Err r → or_damaged (cond b (Some a) None) fault ≡ Some r
-checked true a fault r e = let z : ◌≡◌ {A = ℕ} 0 1 = cc in absurd (omega arith)
+checked true a fault r e = absurd (cc)
 checked false a fault r e = cc
 
 sound_when : {A : Type 0} (b : Bool) (a : A) → ok_unless (or_damaged (cond b (Some a) None) (λ (x : A). None)) ≡ Ok tt → true ≡ b
 sound_when true a e = refl
-sound_when false a e = let z : ◌≡◌ {A = ℕ} 0 1 = cc in absurd (omega arith)
+sound_when false a e = absurd (cc)
 
 module _ (b : Book) (trains : List TrainRow) (stops : List StopRow) where
   pub check_passed : ok_unless (check_refusal b trains stops) ≡ Ok tt → true ≡ holds b.trains b.stops trains stops
   unfolding check_refusal
   check_passed e = sound_when (holds b.trains b.stops trains stops) (listed b.trains trains stops) e
+
+  pub begin_checked : (n : ℕ) (r : Result (Unit {0}) Refusal) → r ≡ check_answer b trains stops → r ≡ Ok tt
+      → begin_refusal b trains stops n ≡ begin_tests n b.trains (length trains) (is_some (place_if_any n (take b.trains trains)))
+  begin_checked n r a e = begin_flat b trains stops n (check_passed (sym a ∙ e))
 
   pub begin_damaged : (n : ℕ) (r : Refusal) → ok_unless (check_refusal b trains stops) ≡ Err r → begin_refusal b trains stops n ≡ Some r
   unfolding check_refusal begin_refusal
@@ -105,14 +109,14 @@ module _ (b : Book) (trains : List TrainRow) (stops : List StopRow) where
 -- ---- what a call that is not refused may rely on
 whole : {A : Type 0} (b : Bool) (a : A) (fault : A → Option Refusal) → or_damaged (cond b (Some a) None) fault ≡ None → true ≡ b
 whole true a fault e = refl
-whole false a fault e = let z : ◌≡◌ {A = ℕ} 0 1 = cc in absurd (omega arith)
+whole false a fault e = absurd (cc)
 
 pub no_fault : (x y : Option Refusal) → or_else x y ≡ None → (x ≡ None) × (y ≡ None)
 no_fault None y e = (refl, e)
-no_fault (Some r) y e = let z : ◌≡◌ {A = ℕ} 0 1 = cc in absurd (omega arith)
+no_fault (Some r) y e = absurd (cc)
 
 pub not_when : (b : Bool) (r : Refusal) → when b r ≡ None → b ≡ false
-not_when true r e = let z : ◌≡◌ {A = ℕ} 0 1 = cc in absurd (omega arith)
+not_when true r e = absurd (cc)
 not_when false r e = refl
 
 pub begin_held : (b : Book) (trains : List TrainRow) (stops : List StopRow) (n : ℕ) → begin_refusal b trains stops n ≡ None → true ≡ holds b.trains b.stops trains stops
@@ -145,6 +149,9 @@ finish_held e trains stops n = whole (entry_holds e trains stops) (listed e.book
 
 pub finish_passed : (e : Entry) (trains : List TrainRow) (stops : List StopRow) → finish_refusal e trains stops ≡ None → ended (last_of None (open_stops e stops)) ≡ true
 finish_passed e trains stops n = not-false _ (not_when _ _ (sym (finish_flat e trains stops (finish_held e trains stops n)) ∙ n))
+
+pub may_finish_held : (e : Entry) (trains : List TrainRow) (stops : List StopRow) → Ok tt ≡ ok_unless (finish_refusal e trains stops) → EntryHeld e trains stops
+may_finish_held e trains stops a = entry_held e trains stops (sym (finish_held e trains stops (not_refused _ a)))
 
 pub withdraw_held : (b : Book) (trains : List TrainRow) (stops : List StopRow) (n : ℕ) → withdraw_refusal b trains stops n ≡ None → true ≡ holds b.trains b.stops trains stops
 unfolding withdraw_refusal

@@ -20,11 +20,11 @@ record Fits (before : Option StopRow) (s : StopRow) : Type 0 where
   rode : not_after (left_at before) s.arrive ≡ false
 
 no_fault : (a b : Option Refusal) → is_some (or_else a b) ≡ false → (is_some a ≡ false) × (is_some b ≡ false)
-no_fault (Some x) b e = let z : ◌≡◌ {A = ℕ} 0 1 = cc in absurd (omega arith)
+no_fault (Some x) b e = absurd (cc)
 no_fault None b e = (refl, e)
 
 not_when : (b : Bool) (x : Refusal) → is_some (when b x) ≡ false → b ≡ false
-not_when true x e = let z : ◌≡◌ {A = ℕ} 0 1 = cc in absurd (omega arith)
+not_when true x e = absurd (cc)
 not_when false x e = refl
 
 fits : (before : Option StopRow) (s : StopRow) → is_some (stop_fault before s) ≡ false → Fits before s
@@ -79,7 +79,7 @@ all_fit b (s ∷ ss) each =
 -- ---- what a test of a minute says
 none : {A : Type 0} (o : Option A) → is_some o ≡ false → o ≡ None
 none None h = refl
-none (Some x) h = let z : ◌≡◌ {A = ℕ} 0 1 = cc in absurd (omega arith)
+none (Some x) h = absurd (cc)
 
 not_late : (o : Option ℕ) → ((m : ℕ) → o ≡ Some m → m ≤ 2879) → late o ≡ false
 not_late None h = refl
@@ -103,7 +103,7 @@ rode_from (Some d) (Some m) h = lt-leb m d.minute (h d m refl refl)
 
 -- ---- a train that passes keeps the rules
 two : (ss : List StopRow) → in_order None ss ≡ true → ended (last_of None ss) ≡ true → 2 ≤ length ss
-two [] h e = let z : ◌≡◌ {A = ℕ} 0 1 = cc in absurd (omega arith)
+two [] h e = absurd (cc)
 two (s ∷ []) h e =
     let f = fits None s (not-true _ (and_parts _ _ h).0) in
     absurd (both_ways _ (or_parts _ _ f.timed).1 e)

@@ -1,23 +1,7 @@
--- One step of `in_order`, and the last stop.
-use Rattle.std.proofs.Common.{◌≡◌, ℕ, suc, ◌-◌, ◌<◌, true, false, List, [], ◌∷◌, length, get_or, slice_get, is_some, is_err, Some, None, Option, Result, sym, refl, ap, ◌∙◌, arith}
+-- The last of some stops.
+use Rattle.std.proofs.Common.{◌≡◌, ℕ, suc, ◌-◌, ◌<◌, List, [], ◌∷◌, length, get_or, slice_get, Some, None, Option, sym, refl, ap, ◌∙◌, arith}
 use Rattle.book.specs.declared.rows.StopRow.{StopRow}
-use Rattle.book.specs.declared.refusal.Refusal.{Refusal}
-use Rattle.book.specs.Answers.{ok_unless}
-use Rattle.book.specs.Stops.{stop_fault, in_order, last_of}
-
-err_unless : (f : Option Refusal) → is_err (ok_unless f) ≡ is_some f
-err_unless None = refl
-err_unless (Some x) = refl
-
-module _ (b : Option StopRow) (s : StopRow) (rest : List StopRow) (r : Result (Unit {0}) Refusal) (judged : r ≡ ok_unless (stop_fault b s)) where
-  fault : is_err r ≡ is_some (stop_fault b s)
-  fault = rw judged (err_unless (stop_fault b s))
-
-  pub refused : true ≡ is_err r → in_order b (s ∷ rest) ≡ false
-  refused h = let e : is_some (stop_fault b s) ≡ true = sym fault ∙ sym h in rw e refl
-
-  pub passed : false ≡ is_err r → in_order b (s ∷ rest) ≡ in_order (Some s) rest
-  passed h = let e : is_some (stop_fault b s) ≡ false = sym fault ∙ sym h in rw e refl
+use Rattle.book.specs.Stops.{last_of}
 
 -- what stands past the end of a table
 abbrev pub no_stop : StopRow

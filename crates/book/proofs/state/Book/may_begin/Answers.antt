@@ -1,7 +1,7 @@
-use Rattle.std.proofs.Common.{sym, ap, ◌∙◌, arith, length-take-le}
+use Rattle.std.proofs.Common.{sym, ◌∙◌, arith, length-take-le}
 use Rattle.std.proofs.lemmas.Bool.Decides.{nat_tests}
 use Rattle.book.proofs.Held.{held}
-use Rattle.book.proofs.RefusalTests.{check_passed, begin_damaged, begin_flat}
+use Rattle.book.proofs.RefusalTests.{check_passed, begin_checked, begin_damaged}
 use Rattle.book.proofs.state.Book.may_begin.Goals as goal
 
 pub returns-in_err-check : goal.returns-in_err-check
@@ -11,7 +11,7 @@ returns-in_err-check c =
 
 pub returns-then-number-eq0 : goal.returns-then-number-eq0
 returns-then-number-eq0 c =
-    let e = begin_flat _ _ _ c.args.number (check_passed _ _ _ (sym c.check.ensures.answer ∙ c.in_ok-check.was)) in
+    let e = begin_checked _ _ _ c.args.number _ c.check.ensures.answer c.in_ok-check.was in
     grind (arith, nat_tests)
 
 pub slice_bounds-place_of-end : goal.slice_bounds-place_of-end
@@ -21,15 +21,15 @@ slice_bounds-place_of-end c =
 
 pub returns-then-is_some : goal.returns-then-is_some
 returns-then-is_some c =
-    let e = begin_flat _ _ _ c.args.number (check_passed _ _ _ (sym c.check.ensures.answer ∙ c.in_ok-check.was)) in
+    let e = begin_checked _ _ _ c.args.number _ c.check.ensures.answer c.in_ok-check.was in
     grind (arith, nat_tests)
 
 pub returns-then-used : goal.returns-then-used
 returns-then-used c =
-    let e = begin_flat _ _ _ c.args.number (check_passed _ _ _ (sym c.check.ensures.answer ∙ c.in_ok-check.was)) in
+    let e = begin_checked _ _ _ c.args.number _ c.check.ensures.answer c.in_ok-check.was in
     grind (arith, nat_tests)
 
 pub returns : goal.returns
 returns c =
-    let e = begin_flat _ _ _ c.args.number (check_passed _ _ _ (sym c.check.ensures.answer ∙ c.in_ok-check.was)) in
+    let e = begin_checked _ _ _ c.args.number _ c.check.ensures.answer c.in_ok-check.was in
     grind (arith, nat_tests)

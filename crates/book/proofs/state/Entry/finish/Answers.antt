@@ -1,25 +1,24 @@
-use Rattle.std.proofs.Common.{sym, ap, arith, rules}
-use Rattle.book.proofs.Held.{entry_held}
+use Rattle.std.proofs.Common.{ap, arith, rules}
 use Rattle.book.proofs.Continued.{finish_continued}
-use Rattle.book.proofs.RefusalTests.{refused_by, not_refused, finish_held}
+use Rattle.book.proofs.RefusalTests.{refused_by, not_refused, may_finish_held}
 use Rattle.book.specs.declared.state.Book.{Book}
 use Rattle.book.proofs.state.Entry.finish.Goals as goal
 
 pub bounds-trains-book : goal.bounds-trains-book
 bounds-trains-book c =
-    let k = entry_held _ _ _ (sym (finish_held _ _ _ (not_refused _ c.in-Ok.ensures))) in
+    let k = may_finish_held _ _ _ c.in-Ok.ensures in
     let e = ap (λ (b : Book). b.trains) c.abandon-book.ensures.answer in
     omega arith
 
 pub overflow_add-result : goal.overflow_add-result
 overflow_add-result c =
-    let k = entry_held _ _ _ (sym (finish_held _ _ _ (not_refused _ c.in-Ok.ensures))) in
+    let k = may_finish_held _ _ _ c.in-Ok.ensures in
     let e = ap (λ (b : Book). b.trains) c.abandon-book.ensures.answer in
     omega arith
 
 pub overflow_add-result-in-Ok : goal.overflow_add-result-in-Ok
 overflow_add-result-in-Ok c =
-    let k = entry_held _ _ _ (sym (finish_held _ _ _ (not_refused _ c.in-Ok.ensures))) in
+    let k = may_finish_held _ _ _ c.in-Ok.ensures in
     let e = ap (λ (b : Book). b.stops) c.abandon-book.ensures.answer in
     omega arith
 
