@@ -74,6 +74,12 @@ asked_named word =
     cond (bytes_eq word (codes "fares")) (Some tariffs.Fares) (
     cond (bytes_eq word (codes "waits")) (Some tariffs.Waits) None))
 
+-- the word that names it
+abbrev pub asked_name : Asked → List ℕ
+asked_name tariffs.Minutes = codes "minutes"
+asked_name tariffs.Fares = codes "fares"
+asked_name tariffs.Waits = codes "waits"
+
 -- a number below `limit` as the first word, and then what the words behind it say
 abbrev pub number_then : Expected → ℕ → List ℕ → (ℕ → List ℕ → Result Line Expected) → Result Line Expected
 number_then what limit bs on = and_then what (number limit (first bs)) (λ n. on n (rest bs))

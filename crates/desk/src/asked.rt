@@ -1,11 +1,11 @@
 // The tariff that a query asks for.
-ghost use Rattle.std.specs.Prelude.{◌≡◌};
-ghost use Rattle.desk.specs.Lines.{asked_named};
+ghost use Rattle.std.specs.Prelude.{◌≡◌, Some};
+ghost use Rattle.desk.specs.Lines.{asked_name, asked_named};
 
-use crate::verb::is;
+use std::fmt;
 
 // The penalty of the tariff by minutes is the program's, and no query's.
-#[derive(Clone, Copy)]
+#[derive(Clone, Copy, PartialEq, Eq, Debug)]
 pub enum Asked {
     Minutes,
     Fares,
@@ -16,14 +16,23 @@ pub enum Asked {
 pub fn asked_named(word: &[u8]) -> Option<Asked>
     ensures { result ≡ asked_named word.now }
 {
-    if is(word, b"minutes") {
-        return Some(Asked::Minutes);
+    match word {
+        b"minutes" => Some(Asked::Minutes),
+        b"fares" => Some(Asked::Fares),
+        b"waits" => Some(Asked::Waits),
+        _ => None,
     }
-    if is(word, b"fares") {
-        return Some(Asked::Fares);
+}
+
+// The word that names the tariff.
+impl fmt::Display for Asked {
+    ghost output = { λ a. Some (asked_name a) };
+
+    fn fmt<W: fmt::Write>(&self, f: &mut fmt::Formatter<W>) -> fmt::Result {
+        match self {
+            Asked::Minutes => write!(f, "minutes"),
+            Asked::Fares => write!(f, "fares"),
+            Asked::Waits => write!(f, "waits"),
+        }
     }
-    if is(word, b"waits") {
-        return Some(Asked::Waits);
-    }
-    None
 }
