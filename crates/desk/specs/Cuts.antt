@@ -1,17 +1,17 @@
 -- Bytes cut in two at the first of a given byte, and a text cut into lines.
-use Rattle.std.specs.Prelude.{ℕ, suc, ◌+◌, cond, List, [], ◌∷◌, take, drop, ◌==◌}
+use Rattle.std.specs.Prelude.{ℕ, cond, List, [], ◌∷◌, ◌==◌}
+use Rattle.std.specs.List.{position_or_len, before_first, after_first}
 
 -- how many bytes stand ahead of the first `mark`, all where there is none
 abbrev pub ahead : ℕ → List ℕ → ℕ
-ahead mark [] = 0
-ahead mark (b ∷ bs) = cond (b == mark) 0 (suc (ahead mark bs))
+ahead mark bs = position_or_len (λ b. b == mark) bs
 
 abbrev pub front : ℕ → List ℕ → List ℕ
-front mark bs = take (ahead mark bs) bs
+front mark bs = before_first (λ b. b == mark) bs
 
 -- what stands behind the first `mark`, nothing where there is none
 abbrev pub behind : ℕ → List ℕ → List ℕ
-behind mark bs = drop (ahead mark bs + 1) bs
+behind mark bs = after_first (λ b. b == mark) bs
 
 -- a byte put in front of a line
 abbrev pub in_first : ℕ → List (List ℕ) → List (List ℕ)

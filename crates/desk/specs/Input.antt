@@ -1,6 +1,6 @@
 -- The journey that the lines of an input give.
-use Rattle.std.specs.Prelude.{List, [], ◌∷◌, ◌++◌, Some, None, Ok, Err, Option, Result}
-use Rattle.std.specs.Option.{option_to_list}
+use Rattle.std.specs.Prelude.{List, Some, None, Ok, Err, Option, Result}
+use Rattle.std.specs.List.{filter_map}
 use Rattle.tariff.specs.declared.step.Step.{Step}
 use Rattle.desk.specs.declared.line.Line.{Line}
 use Rattle.desk.specs.declared.line.Line.TheVariants as lines
@@ -17,5 +17,4 @@ step_in (Err expected) = None
 
 -- the steps in the order of their lines
 abbrev pub steps_in : List (Result Line Expected) → List Step
-steps_in [] = []
-steps_in (said ∷ rest) = option_to_list (step_in said) ++ steps_in rest
+steps_in said = filter_map step_in said

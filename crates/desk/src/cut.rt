@@ -1,6 +1,6 @@
 // Bytes cut in two at the first of a given byte.
-ghost use Rattle.std.specs.Prelude.{◌≡◌, ◌≤◌, length};
-ghost use Rattle.desk.specs.Cuts.{ahead, front, behind};
+ghost use Rattle.std.specs.Prelude.{◌≡◌};
+ghost use Rattle.desk.specs.Cuts.{front, behind};
 
 #[derive(Clone, Copy)]
 pub struct Cut<'a> {
@@ -10,27 +10,19 @@ pub struct Cut<'a> {
     pub behind: &'a [u8],
 }
 
-// How many bytes stand ahead of the first `mark`, all where there is none.
-fn count_ahead(bytes: &[u8], mark: u8) -> usize
-    ensures value { result ≡ ahead mark bytes.now }
-    ensures within { result ≤ length bytes.now }
-{
-    for (i, byte) in bytes.iter().enumerate() {
-        if *byte == mark {
-            return i;
-        }
-    }
-    bytes.len()
-}
-
+// The bytes cut in two at the first `mark`.
 pub fn cut_at(bytes: &[u8], mark: u8) -> Cut<'_>
     ensures front { result.front.now ≡ front mark bytes.now }
     ensures behind { result.behind.now ≡ behind mark bytes.now }
 {
-    let ahead = count_ahead(bytes, mark);
-    let next = bytes.len().min(ahead + 1);
-    Cut {
-        front: &bytes[0..ahead],
-        behind: &bytes[next..],
+    match bytes.iter().position(|byte| *byte == mark) {
+        Some(at) => Cut {
+            front: &bytes[..at],
+            behind: &bytes[at + 1..],
+        },
+        None => Cut {
+            front: bytes,
+            behind: &[],
+        },
     }
 }

@@ -1,10 +1,17 @@
-use Rattle.desk.proofs.Cuts.{front_is, behind_is}
+use Rattle.std.proofs.Common.{◌==◌, rules, tests}
+use Rattle.std.proofs.lemmas.Iterator.{YieldsList-from_slice}
+use Rattle.std.proofs.lemmas.Iterator.Search.{position_from_yields_List}
+use Rattle.desk.proofs.Cuts.{cut_here, cut_nowhere}
 use Rattle.desk.proofs.cut.cut_at.Goals as goal
 
-pub returns : goal.returns
-returns c =
-    let counted = c.count_ahead-ahead.ensures in
-    record {
-      front = front_is c.args.mark c.args.bytes.now c.count_ahead-ahead.result c.min-next.result counted.value counted.within;
-      behind = behind_is c.args.mark c.args.bytes.now c.count_ahead-ahead.result c.min-next.result counted.value counted.within c.min-next.ensures;
-    }
+pub returns-in-Some : goal.returns-in-Some
+returns-in-Some c =
+    let bs = c.args.bytes.now in
+    let cut = cut_here c.args.mark bs c.in-Some.at (position_from_yields_List (λ b. b == c.args.mark) _ _ _ c.in-Some.ensures.ran (YieldsList-from_slice bs cc) (λ x b q k. search (rules, tests))) in
+    record { front = cut.0; behind = cut.1 }
+
+pub returns-in-None : goal.returns-in-None
+returns-in-None c =
+    let bs = c.args.bytes.now in
+    let cut = cut_nowhere c.args.mark bs (position_from_yields_List (λ b. b == c.args.mark) _ _ _ c.in-None.ensures.ran (YieldsList-from_slice bs cc) (λ x b q k. search (rules, tests))) in
+    record { front = cut.0; behind = cut.1 }
