@@ -6,10 +6,7 @@ use calendar::Calendar;
 use std::alloc::{AllocError, Global};
 
 // How many days are looked at.
-const FORTNIGHT: u32 = 14;
-
-// Where days end.
-const DAYS: u32 = 65_536;
+const FORTNIGHT: u16 = 14;
 
 // The days of the fortnight from `first` on, on which the code runs; days past the last one, 65,535, are no days.
 pub fn running_days<C: Calendar>(
@@ -20,12 +17,8 @@ pub fn running_days<C: Calendar>(
 ) -> Result<Vec<u16>, AllocError>
     ensures { IfOk result (λ days. days.items ≡ running_days (C.Calendar.runs calendar.now) code first) }
 {
-    let mut days = Vec::new(heap);
-    let end = (first as u32 + FORTNIGHT).min(DAYS);
-    for day in first as u32..end {
-        if calendar.runs_on(code, day as u16) {
-            days.push(day as u16)?;
-        }
-    }
-    Ok(days)
+    let last = first.saturating_add(FORTNIGHT - 1);
+    (first..=last)
+        .filter(|day| calendar.runs_on(code, *day))
+        .collect(heap)
 }
