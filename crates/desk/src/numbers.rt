@@ -24,8 +24,17 @@ pub fn number_of(digits: &[u8], most: u16) -> Option<u16>
         return None;
     }
     let mut n = 0;
+    // as plain as a `try_fold`: the first byte that is no digit, or makes too much, ends it
     for byte in digits {
         n = with_digit(n, *byte, most)?;
     }
     Some(n)
+}
+
+// The number that the digits write, with no zero ahead, where it is no more than 255.
+pub fn small_number_of(digits: &[u8]) -> Option<u8>
+    ensures { result ≡ number 256 digits.now }
+{
+    let n = number_of(digits, 255)?;
+    Some(n as u8)
 }

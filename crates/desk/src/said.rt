@@ -1,12 +1,13 @@
 // What a line says.
-ghost use Rattle.std.specs.Prelude.{◌≡◌};
+ghost use Rattle.std.specs.Prelude.{◌≡◌, Some};
+ghost use Rattle.std.specs.Option.{ok_or};
 ghost use Rattle.desk.specs.Lines.{step_says, runs_says, query_says, train_says, stop_says, withdraw_says, bare_says, verb_says, says, number_or_dash, departure};
 
 use crate::asked::asked_named;
 use crate::cut::cut_at;
 use crate::line::{Call, Expected, Line};
-use crate::numbers::number_of;
-use crate::verb::{Verb, is, verb_named};
+use crate::numbers::{number_of, small_number_of};
+use crate::verb::{Verb, verb_named};
 use book::rows::{Departure, StopRow};
 use connection::query::Query;
 use tariff::step::{Kind, Step};
@@ -16,12 +17,8 @@ fn step_said(kind: Kind, bytes: &[u8]) -> Result<Line, Expected>
     ensures { result ≡ step_says kind bytes.now }
 {
     let words = cut_at(bytes, b' ');
-    let Some(minutes) = number_of(words.front, u16::MAX) else {
-        return Err(Expected::Minutes);
-    };
-    let Some(fare) = number_of(words.behind, u16::MAX) else {
-        return Err(Expected::Fare);
-    };
+    let minutes = number_of(words.front, u16::MAX).ok_or(Expected::Minutes)?;
+    let fare = number_of(words.behind, u16::MAX).ok_or(Expected::Fare)?;
     Ok(Line::Step(Step::new(kind, minutes, fare)))
 }
 
@@ -30,16 +27,9 @@ fn runs_said(bytes: &[u8]) -> Result<Line, Expected>
     ensures { result ≡ runs_says bytes.now }
 {
     let words = cut_at(bytes, b' ');
-    let Some(code) = number_of(words.front, 255) else {
-        return Err(Expected::Code);
-    };
-    let Some(day) = number_of(words.behind, u16::MAX) else {
-        return Err(Expected::Day);
-    };
-    Ok(Line::Runs {
-        code: code as u8,
-        day,
-    })
+    let code = small_number_of(words.front).ok_or(Expected::Code)?;
+    let day = number_of(words.behind, u16::MAX).ok_or(Expected::Day)?;
+    Ok(Line::Runs { code, day })
 }
 
 // A question whose origin, destination, day, minute, change limit, features and tariff are these bytes.
@@ -56,7 +46,7 @@ fn query_said(bytes: &[u8]) -> Result<Line, Expected>
     let next = cut_at(next.behind, b' ');
     let minute = number_of(next.front, u16::MAX).ok_or(Expected::Minute)?;
     let next = cut_at(next.behind, b' ');
-    let changes = number_of(next.front, 255).ok_or(Expected::Changes)?;
+    let changes = small_number_of(next.front).ok_or(Expected::Changes)?;
     let next = cut_at(next.behind, b' ');
     let features = number_of(next.front, u16::MAX).ok_or(Expected::Features)?;
     let tariff = asked_named(next.behind).ok_or(Expected::Tariff)?;
@@ -65,7 +55,7 @@ fn query_said(bytes: &[u8]) -> Result<Line, Expected>
         destination,
         day,
         minute,
-        changes: changes as u8,
+        changes,
         features,
     };
     Ok(Line::Query { query, tariff })
@@ -76,44 +66,35 @@ fn train_said(bytes: &[u8]) -> Result<Line, Expected>
     ensures { result ≡ train_says bytes.now }
 {
     let words = cut_at(bytes, b' ');
-    let Some(number) = number_of(words.front, u16::MAX) else {
-        return Err(Expected::Number);
-    };
+    let number = number_of(words.front, u16::MAX).ok_or(Expected::Number)?;
     let rest = cut_at(words.behind, b' ');
-    let Some(code) = number_of(rest.front, 255) else {
-        return Err(Expected::Code);
-    };
-    let Some(features) = number_of(rest.behind, u16::MAX) else {
-        return Err(Expected::Features);
-    };
+    let code = small_number_of(rest.front).ok_or(Expected::Code)?;
+    let features = number_of(rest.behind, u16::MAX).ok_or(Expected::Features)?;
     Ok(Line::Book(Call::Begin {
         number,
-        code: code as u8,
+        code,
         features,
     }))
 }
 
-// A number, or a dash for none.
-fn number_or_dash(word: &[u8]) -> Option<Option<u16>>
-    ensures { result ≡ number_or_dash word.now }
+// A number, or a dash for none; or what was expected.
+fn number_or_dash(word: &[u8], expected: Expected) -> Result<Option<u16>, Expected>
+    ensures { result ≡ ok_or (number_or_dash word.now) expected }
 {
-    if is(word, b"-") {
-        return Some(None);
-    }
-    match number_of(word, u16::MAX) {
-        Some(number) => Some(Some(number)),
-        None => None,
+    match word {
+        b"-" => Ok(None),
+        _ => number_of(word, u16::MAX).map(Some).ok_or(expected),
     }
 }
 
 // A departure and its fare: both are there, or neither.
-fn departure_of(minute: Option<u16>, fare: Option<Option<u16>>) -> Option<Option<Departure>>
-    ensures { result ≡ departure minute fare }
+fn departure_of(minute: Option<u16>, fare: Option<u16>) -> Result<Option<Departure>, Expected>
+    ensures { result ≡ ok_or (departure minute (Some fare)) Expected.DepartureFare }
 {
     match (minute, fare) {
-        (Some(minute), Some(Some(fare))) => Some(Some(Departure { minute, fare })),
-        (None, Some(None)) => Some(None),
-        _ => None,
+        (Some(minute), Some(fare)) => Ok(Some(Departure { minute, fare })),
+        (None, None) => Ok(None),
+        (Some(_), None) | (None, Some(_)) => Err(Expected::DepartureFare),
     }
 }
 
@@ -122,20 +103,13 @@ fn stop_said(bytes: &[u8]) -> Result<Line, Expected>
     ensures { result ≡ stop_says bytes.now }
 {
     let words = cut_at(bytes, b' ');
-    let Some(station) = number_of(words.front, u16::MAX) else {
-        return Err(Expected::Station);
-    };
+    let station = number_of(words.front, u16::MAX).ok_or(Expected::Station)?;
     let times = cut_at(words.behind, b' ');
-    let Some(arrive) = number_or_dash(times.front) else {
-        return Err(Expected::Arrival);
-    };
+    let arrive = number_or_dash(times.front, Expected::Arrival)?;
     let leave = cut_at(times.behind, b' ');
-    let Some(minute) = number_or_dash(leave.front) else {
-        return Err(Expected::Departure);
-    };
-    let Some(depart) = departure_of(minute, number_or_dash(leave.behind)) else {
-        return Err(Expected::DepartureFare);
-    };
+    let minute = number_or_dash(leave.front, Expected::Departure)?;
+    let fare = number_or_dash(leave.behind, Expected::DepartureFare)?;
+    let depart = departure_of(minute, fare)?;
     Ok(Line::Book(Call::Stop(StopRow {
         station,
         arrive,
@@ -147,10 +121,8 @@ fn stop_said(bytes: &[u8]) -> Result<Line, Expected>
 fn withdraw_said(bytes: &[u8]) -> Result<Line, Expected>
     ensures { result ≡ withdraw_says bytes.now }
 {
-    match number_of(bytes, u16::MAX) {
-        Some(number) => Ok(Line::Book(Call::Withdraw { number })),
-        None => Err(Expected::Number),
-    }
+    let number = number_of(bytes, u16::MAX).ok_or(Expected::Number)?;
+    Ok(Line::Book(Call::Withdraw { number }))
 }
 
 // A call that stands alone in its line.
@@ -188,8 +160,6 @@ pub fn said(line: &[u8]) -> Result<Line, Expected>
         return Ok(Line::Blank);
     }
     let words = cut_at(line, b' ');
-    match verb_named(words.front) {
-        Some(verb) => verb_said(verb, words.behind),
-        None => Err(Expected::Word),
-    }
+    let verb = verb_named(words.front).ok_or(Expected::Word)?;
+    verb_said(verb, words.behind)
 }
