@@ -6,7 +6,7 @@ use std::fmt;
 use tariff::step::Step;
 
 // A call on the book.
-#[derive(Clone, Copy)]
+#[derive(Clone, Copy, PartialEq, Eq, Debug)]
 pub enum Call {
     Begin {
         number: u16,
@@ -36,7 +36,7 @@ pub enum Line {
 }
 
 // What was expected where a line is malformed.
-#[derive(Clone, Copy)]
+#[derive(Clone, Copy, PartialEq, Eq, Debug)]
 pub enum Expected {
     Word,
     Minutes,
