@@ -1,7 +1,5 @@
-mod Collected
 mod Cuts
 mod Digits
-mod FilledHistories
+mod Called
 mod Fortnights
 mod QueryLines
-mod Words

@@ -1,5 +1,5 @@
 -- What a call on the desk does: with a book or an open train, by the book's own answers.
-use Rattle.std.specs.Prelude.{ℕ, Bool, true, false, List, Some, None, Ok, Err, Option, Result}
+use Rattle.std.specs.Prelude.{ℕ, Bool, true, false, List, Some, None, Ok, Err, Option, Result, codes}
 use Rattle.book.specs.Answers.{begin_answer, stop_answer, stop_rows, finish_answer, finish_rows, abandon_answer, withdraw_answer, withdraw_trains, withdraw_stops}
 use Rattle.book.specs.Histories as histories
 use Rattle.book.specs.PlainList as plain
@@ -10,36 +10,30 @@ use Rattle.book.specs.declared.state.Book.{Book}
 use Rattle.book.specs.declared.state.Entry.{Entry}
 use Rattle.desk.specs.declared.filling.Desk.{Desk}
 use Rattle.desk.specs.declared.filling.Desk.TheVariants.{Closed, Open}
-use Rattle.desk.specs.declared.filling.Outcome.{Outcome}
-use Rattle.desk.specs.declared.filling.Outcome.TheVariants.{Done, Refused, NoTrainOpen, TrainOpen}
+use Rattle.desk.specs.declared.filling.NotDone.{NotDone}
+use Rattle.desk.specs.declared.filling.NotDone.TheVariants.{Refused, NoTrainOpen, TrainOpen}
 use Rattle.desk.specs.declared.line.Call.{Call}
 use Rattle.desk.specs.declared.line.Call.TheVariants.{Begin, Stop, Finish, Abandon, Withdraw}
 
--- ---- a refused call leaves the desk as it was
-abbrev pub after_begin : Result Entry (refused.Refused Book) → Desk × Outcome
-after_begin (Ok e) = (Open e, Done)
-after_begin (Err r) = (Closed r.back, Refused r.refusal)
+-- ---- what comes of a call: the desk with what it gave; or as it was, where the call was refused, and why
+abbrev pub after : {A B : Type 0} → (A → Desk) → (B → Desk) → Result A (refused.Refused B) → Desk × Result (Unit {0}) NotDone
+after given back (Ok a) = (given a, Ok tt)
+after given back (Err r) = (back r.back, Err (Refused r.refusal))
 
-abbrev pub after_stop : Result Entry (refused.Refused Entry) → Desk × Outcome
-after_stop (Ok e) = (Open e, Done)
-after_stop (Err r) = (Open r.back, Refused r.refusal)
-
-abbrev pub after_finish : Result Book (refused.Refused Entry) → Desk × Outcome
-after_finish (Ok b) = (Closed b, Done)
-after_finish (Err r) = (Open r.back, Refused r.refusal)
-
-abbrev pub after_withdraw : Result Book (refused.Refused Book) → Desk × Outcome
-after_withdraw (Ok b) = (Closed b, Done)
-after_withdraw (Err r) = (Closed r.back, Refused r.refusal)
+-- why a call was not done, in words; a refusal has its own
+abbrev pub words_of : NotDone → Option (List ℕ)
+words_of (Refused refusal) = None
+words_of NoTrainOpen = Some (codes "no train is open")
+words_of TrainOpen = Some (codes "a train is open; finish or abandon it first")
 
 -- ---- with no train open
 module _ (b : Book) (ts : List TrainRow) (ss : List StopRow) where
-  abbrev pub on_book : Call → Desk × Outcome
-  on_book (Begin n c f) = after_begin (begin_answer b ts ss n c f)
-  on_book (Stop s) = (Closed b, NoTrainOpen)
-  on_book Finish = (Closed b, NoTrainOpen)
-  on_book Abandon = (Closed b, NoTrainOpen)
-  on_book (Withdraw n) = after_withdraw (withdraw_answer b ts ss n)
+  abbrev pub on_book : Call → Desk × Result (Unit {0}) NotDone
+  on_book (Begin n c f) = after Open Closed (begin_answer b ts ss n c f)
+  on_book (Stop s) = (Closed b, Err NoTrainOpen)
+  on_book Finish = (Closed b, Err NoTrainOpen)
+  on_book Abandon = (Closed b, Err NoTrainOpen)
+  on_book (Withdraw n) = after Closed Closed (withdraw_answer b ts ss n)
 
   abbrev pub trains_on_book : Call → List TrainRow
   trains_on_book (Begin n c f) = ts
@@ -57,12 +51,12 @@ module _ (b : Book) (ts : List TrainRow) (ss : List StopRow) where
 
 -- ---- with a train open
 module _ (e : Entry) (ts : List TrainRow) (ss : List StopRow) where
-  abbrev pub on_entry : Call → Desk × Outcome
-  on_entry (Begin n c f) = (Open e, TrainOpen)
-  on_entry (Stop s) = after_stop (stop_answer e ts ss s)
-  on_entry Finish = after_finish (finish_answer e ts ss)
-  on_entry Abandon = (Closed (abandon_answer e), Done)
-  on_entry (Withdraw n) = (Open e, TrainOpen)
+  abbrev pub on_entry : Call → Desk × Result (Unit {0}) NotDone
+  on_entry (Begin n c f) = (Open e, Err TrainOpen)
+  on_entry (Stop s) = after Open Open (stop_answer e ts ss s)
+  on_entry Finish = after Closed Open (finish_answer e ts ss)
+  on_entry Abandon = (Closed (abandon_answer e), Ok tt)
+  on_entry (Withdraw n) = (Open e, Err TrainOpen)
 
   abbrev pub trains_on_entry : Call → List TrainRow
   trains_on_entry (Begin n c f) = ts
@@ -79,7 +73,7 @@ module _ (e : Entry) (ts : List TrainRow) (ss : List StopRow) where
   stops_on_entry (Withdraw n) = ss
 
 -- ---- either way
-abbrev pub called : Desk → List TrainRow → List StopRow → Call → Desk × Outcome
+abbrev pub called : Desk → List TrainRow → List StopRow → Call → Desk × Result (Unit {0}) NotDone
 called (Closed b) ts ss call = on_book b ts ss call
 called (Open e) ts ss call = on_entry e ts ss call
 

@@ -1,14 +1,18 @@
 // The book is filled call by call.
-ghost use Rattle.std.specs.Prelude.{◌≡◌, true, List};
+ghost use Rattle.std.specs.Prelude.{◌≡◌, true, List, Ok, Err, MatchResult};
 ghost use Rattle.book.specs.Histories.{LeadsOn};
 ghost use Rattle.book.specs.declared.rows.StopRow.{StopRow};
 ghost use Rattle.book.specs.declared.rows.TrainRow.{TrainRow};
-ghost use Rattle.desk.specs.Filling.{after_begin, after_stop, after_finish, after_withdraw, on_book, on_entry, trains_on_book, stops_on_book, trains_on_entry, stops_on_entry, called, trains_after, stops_after, allowed, state_of, call_of, closed, Closes};
+ghost use Rattle.desk.specs.declared.filling.Desk.TheVariants.{Closed, Open};
+ghost use Rattle.desk.specs.declared.filling.NotDone.TheVariants.{Refused};
+ghost use Rattle.desk.specs.Filling.{words_of, on_book, on_entry, trains_on_book, stops_on_book, trains_on_entry, stops_on_entry, called, trains_after, stops_after, allowed, state_of, call_of, closed, Closes};
 
 use crate::line::Call;
 use book::refusal::{Refusal, Refused};
 use book::rows::{StopRow, TrainRow};
 use book::state::{Book, Entry};
+use std::error::Error;
+use std::fmt;
 
 // The book, or the train that is being entered into it.
 pub enum Desk {
@@ -16,9 +20,26 @@ pub enum Desk {
     Open(Entry),
 }
 
-#[derive(Clone, Copy)]
-pub enum Outcome {
-    Done,
+impl From<Book> for Desk {
+    ghost from_gives = { λ book desk. desk ≡ Closed book };
+
+    fn from(book: Book) -> Desk {
+        Desk::Closed(book)
+    }
+}
+
+impl From<Entry> for Desk {
+    ghost from_gives = { λ entry desk. desk ≡ Open entry };
+
+    fn from(entry: Entry) -> Desk {
+        Desk::Open(entry)
+    }
+}
+
+// Why a call was not done.
+#[derive(Clone, Copy, PartialEq, Eq, Debug)]
+pub enum NotDone {
+    // the book or the entry refused it
     Refused(Refusal),
     // the call is for an open train, and there is none
     NoTrainOpen,
@@ -26,39 +47,38 @@ pub enum Outcome {
     TrainOpen,
 }
 
-fn begun(res: Result<Entry, Refused<Book>>) -> (Desk, Outcome)
-    ensures { result ≡ after_begin res }
-{
-    match res {
-        Ok(entry) => (Desk::Open(entry), Outcome::Done),
-        Err(Refused { back, refusal }) => (Desk::Closed(back), Outcome::Refused(refusal)),
+impl From<Refusal> for NotDone {
+    ghost from_gives = { λ refusal why. why ≡ Refused refusal };
+
+    fn from(refusal: Refusal) -> NotDone {
+        NotDone::Refused(refusal)
     }
 }
 
-fn stopped(res: Result<Entry, Refused<Entry>>) -> (Desk, Outcome)
-    ensures { result ≡ after_stop res }
-{
-    match res {
-        Ok(entry) => (Desk::Open(entry), Outcome::Done),
-        Err(Refused { back, refusal }) => (Desk::Open(back), Outcome::Refused(refusal)),
+impl fmt::Display for NotDone {
+    ghost output = { words_of };
+
+    fn fmt<W: fmt::Write>(&self, f: &mut fmt::Formatter<W>) -> fmt::Result {
+        match self {
+            NotDone::Refused(refusal) => {
+                let number = refusal.number();
+                write!(f, "refused {number}: {refusal}")
+            }
+            NotDone::NoTrainOpen => write!(f, "no train is open"),
+            NotDone::TrainOpen => write!(f, "a train is open; finish or abandon it first"),
+        }
     }
 }
 
-fn finished(res: Result<Book, Refused<Entry>>) -> (Desk, Outcome)
-    ensures { result ≡ after_finish res }
-{
-    match res {
-        Ok(book) => (Desk::Closed(book), Outcome::Done),
-        Err(Refused { back, refusal }) => (Desk::Open(back), Outcome::Refused(refusal)),
-    }
-}
+impl Error for NotDone {}
 
-fn withdrawn(res: Result<Book, Refused<Book>>) -> (Desk, Outcome)
-    ensures { result ≡ after_withdraw res }
+// The desk with what a call gave; or with what a refused call gave back, and why.
+fn after<A: Into<Desk>, B: Into<Desk>>(res: Result<A, Refused<B>>) -> (Desk, Result<(), NotDone>)
+    ensures { MatchResult res (λ given. A.converts given result.0 × (result.1 ≡ Ok tt)) (λ refused. B.converts refused.back result.0 × (result.1 ≡ Err (NotDone.Refused refused.refusal))) }
 {
     match res {
-        Ok(book) => (Desk::Closed(book), Outcome::Done),
-        Err(Refused { back, refusal }) => (Desk::Closed(back), Outcome::Refused(refusal)),
+        Ok(given) => (given.into(), Ok(())),
+        Err(Refused { back, refusal }) => (back.into(), Err(refusal.into())),
     }
 }
 
@@ -68,7 +88,7 @@ fn call_on_book(
     trains: &mut [TrainRow],
     stops: &mut [StopRow],
     call: Call,
-) -> (Desk, Outcome)
+) -> (Desk, Result<(), NotDone>)
     ensures answer { result ≡ on_book book trains.old stops.old call }
     ensures trains { trains.new ≡ trains_on_book book trains.old stops.old call }
     ensures stops { stops.new ≡ stops_on_book book trains.old stops.old call }
@@ -79,9 +99,11 @@ fn call_on_book(
             number,
             code,
             features,
-        } => begun(book.begin(trains, stops, number, code, features)),
-        Call::Withdraw { number } => withdrawn(book.withdraw(trains, stops, number)),
-        Call::Stop(_) | Call::Finish | Call::Abandon => (Desk::Closed(book), Outcome::NoTrainOpen),
+        } => after(book.begin(trains, stops, number, code, features)),
+        Call::Withdraw { number } => after(book.withdraw(trains, stops, number)),
+        Call::Stop(_) | Call::Finish | Call::Abandon => {
+            (Desk::Closed(book), Err(NotDone::NoTrainOpen))
+        }
     }
 }
 
@@ -91,17 +113,17 @@ fn call_on_entry(
     trains: &mut [TrainRow],
     stops: &mut [StopRow],
     call: Call,
-) -> (Desk, Outcome)
+) -> (Desk, Result<(), NotDone>)
     ensures answer { result ≡ on_entry entry trains.old stops.old call }
     ensures trains { trains.new ≡ trains_on_entry entry trains.old stops.old call }
     ensures stops { stops.new ≡ stops_on_entry entry trains.old stops.old call }
     ensures history { allowed (Desk.Open entry) call ≡ true → LeadsOn (state_of (Desk.Open entry)) trains.old stops.old (call_of call) (state_of result.0) trains.new stops.new }
 {
     match call {
-        Call::Stop(row) => stopped(entry.stop(trains, stops, row.station, row.arrive, row.depart)),
-        Call::Finish => finished(entry.finish(trains, stops)),
-        Call::Abandon => (Desk::Closed(entry.abandon()), Outcome::Done),
-        Call::Begin { .. } | Call::Withdraw { .. } => (Desk::Open(entry), Outcome::TrainOpen),
+        Call::Stop(row) => after(entry.stop(trains, stops, row.station, row.arrive, row.depart)),
+        Call::Finish => after(entry.finish(trains, stops)),
+        Call::Abandon => (Desk::Closed(entry.abandon()), Ok(())),
+        Call::Begin { .. } | Call::Withdraw { .. } => (Desk::Open(entry), Err(NotDone::TrainOpen)),
     }
 }
 
@@ -111,7 +133,7 @@ pub fn make_call(
     trains: &mut [TrainRow],
     stops: &mut [StopRow],
     call: Call,
-) -> (Desk, Outcome)
+) -> (Desk, Result<(), NotDone>)
     ensures answer { result ≡ called desk trains.old stops.old call }
     ensures trains { trains.new ≡ trains_after desk trains.old stops.old call }
     ensures stops { stops.new ≡ stops_after desk trains.old stops.old call }

@@ -1,13 +1,13 @@
 // What the program prints.
-use book::refusal::Refusal;
-use book::rows::{StopRow, TrainRow};
-use book::state::Book;
+use crate::timetable::Timetable;
+use book::rows::{Departure, StopRow, TrainRow};
 use calendar::date::Date;
 use calendar::weekday::Weekday;
 use calendar::weekly::Weekly;
-use desk::filling::Outcome;
+use desk::filling::NotDone;
 use desk::line::Expected;
 use desk::running::running_days;
+use std::fmt;
 use tariff::MOST_STEPS;
 use tariff::fares::Fares;
 use tariff::minutes::Minutes;
@@ -35,75 +35,50 @@ pub fn print_expected(rt: &HostRuntime, number: usize, expected: Expected) -> an
     Ok(())
 }
 
-fn words_for(refusal: Refusal) -> &'static str {
-    match refusal {
-        Refusal::Damaged => "the tables do not hold what the book says",
-        Refusal::ZeroNumber => "a train's number is not 0",
-        Refusal::KnownNumber => "the number is in the book",
-        Refusal::NoTrainRow => "there is no room for another train",
-        Refusal::PastLast => "the train has come to its last stop",
-        Refusal::NoStation => "a station is at most 1023",
-        Refusal::SameStation => "the station is that of the stop before",
-        Refusal::WrongTimes => "the first stop has a departure alone, a later one an arrival",
-        Refusal::BadTime => "a time is above 2879 or out of order",
-        Refusal::NoStopRow => "there is no room for another stop",
-        Refusal::Unfinished => "the train has not come to a last stop",
-        Refusal::UnknownNumber => "no train has the number",
-    }
-}
-
-// What came of a call, where it was not done.
-pub fn print_outcome(rt: &HostRuntime, number: usize, outcome: Outcome) -> anyhow::Result<()> {
-    match outcome {
-        Outcome::Done => {}
-        Outcome::NoTrainOpen => println!(rt; "line {number}: no train is open")?,
-        Outcome::TrainOpen => println!(rt;
-            "line {number}: a train is open; finish or abandon it first"
-        )?,
-        Outcome::Refused(refusal) => {
-            let under = refusal.number();
-            let words = words_for(refusal);
-            println!(rt; "line {number}: refused {under}: {words}")?
-        }
-    }
+// Why what the line asks was not done.
+pub fn print_not_done(rt: &HostRuntime, number: usize, why: NotDone) -> anyhow::Result<()> {
+    println!(rt; "line {number}: {why}")?;
     Ok(())
 }
 
-// The minute as hours and minutes, after the words before it.
-pub fn print_time(rt: &HostRuntime, before: &str, minute: u16) -> anyhow::Result<()> {
-    let hours = minute / 60;
-    let minutes = minute % 60;
-    print!(rt; "{before}{hours:02}:{minutes:02}")?;
-    Ok(())
+// Minutes from midnight, as hours and minutes.
+#[derive(Clone, Copy)]
+pub struct Time(pub u16);
+
+impl fmt::Display for Time {
+    fn fmt<W: fmt::Write>(&self, f: &mut fmt::Formatter<W>) -> fmt::Result {
+        let hours = self.0 / 60;
+        let minutes = self.0 % 60;
+        write!(f, "{hours:02}:{minutes:02}")
+    }
 }
 
 fn print_stop(rt: &HostRuntime, stop: StopRow) -> anyhow::Result<()> {
     let station = stop.station;
     print!(rt; "  station {station}")?;
     if let Some(minute) = stop.arrive {
-        print_time(rt, ", arrives ", minute)?;
+        let time = Time(minute);
+        print!(rt; ", arrives {time}")?;
     }
-    if let Some(depart) = stop.depart {
-        let fare = depart.fare;
-        print_time(rt, ", leaves ", depart.minute)?;
-        print!(rt; " for {fare} cents")?;
+    if let Some(Departure { minute, fare }) = stop.depart {
+        let time = Time(minute);
+        print!(rt; ", leaves {time} for {fare} cents")?;
     }
     println!(rt; "")?;
     Ok(())
 }
 
-// The trains in force, each with its stops.
+// A train that was still open, and the trains in force, each with its stops.
 pub fn print_trains(
     rt: &HostRuntime,
-    book: &Book,
+    timetable: &Timetable,
     open: Option<u16>,
-    trains: &[TrainRow],
-    stops: &[StopRow],
 ) -> anyhow::Result<()> {
     if let Some(number) = open {
         println!(rt; "train {number} was left open and is abandoned")?;
     }
-    for row in trains.iter().take(book.trains() as usize) {
+    let in_force = timetable.book.trains() as usize;
+    for row in timetable.trains.iter().take(in_force) {
         let TrainRow {
             number,
             code,
@@ -111,7 +86,7 @@ pub fn print_trains(
             ..
         } = *row;
         println!(rt; "train {number}, code {code}, features {features}")?;
-        for stop in row.stops(stops) {
+        for stop in row.stops(timetable.stops) {
             print_stop(rt, *stop)?;
         }
     }
