@@ -33,21 +33,10 @@ impl Office {
     }
 
     // Makes the call, and tells what came of it.
-    fn call(self, call: Call) -> (Office, Result<(), NotDone>) {
-        let Office {
-            desk,
-            mut trains,
-            mut stops,
-            by_minutes,
-        } = self;
-        let (desk, done) = make_call(desk, &mut trains, &mut stops, call);
-        let office = Office {
-            desk,
-            trains,
-            stops,
-            by_minutes,
-        };
-        (office, done)
+    fn call(mut self, call: Call) -> (Office, Result<(), NotDone>) {
+        let (desk, done) = make_call(self.desk, &mut self.trains, &mut self.stops, call);
+        self.desk = desk;
+        (self, done)
     }
 
     // The trains in force, if no train is open.
