@@ -127,7 +127,7 @@ fn call_on_entry(
     }
 }
 
-// Makes the call, and tells what came of it.
+// Makes the call, and tells what came of it. The two tables stay apart, as the book's own calls are lent them.
 pub fn make_call(
     desk: Desk,
     trains: &mut [TrainRow],

@@ -21,6 +21,7 @@ pub enum Call {
     },
 }
 
+// A step cannot be compared, and so a line cannot.
 #[derive(Clone, Copy)]
 pub enum Line {
     // nothing

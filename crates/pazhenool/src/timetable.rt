@@ -1,4 +1,7 @@
 // The timetable, as queries and the list of trains see it.
+ghost use Rattle.std.specs.Prelude.{◌≡◌};
+ghost use Rattle.search.specs.Refusals.{records_needed};
+
 use book::rows::{StopRow, TrainRow};
 use book::state::Book;
 use connection::query::Query;
@@ -14,7 +17,9 @@ pub struct Timetable<'a> {
 
 impl Timetable<'_> {
     // How long a work table the query needs.
-    pub fn records_for(&self, query: Query) -> usize {
+    pub fn records_for(&self, query: Query) -> usize
+        ensures { result ≡ records_needed self.now.book.now.stops query }
+    {
         3 * self.book.stops() as usize * (query.changes as usize + 1)
     }
 
