@@ -1,36 +1,33 @@
 -- A label is beaten where a layer before it holds one that costs no more.
-use Rattle.std.proofs.Common.{◌≡◌, ℕ, zero, suc, ◌+◌, ◌<◌, ◌≤◌, Bool, true, false, ◌||◌, T, ◌⊎◌, List, Some, None, Option, sym, refl, ap, ◌∙◌, subst, ap₂, inl, inr, add-one, arith}
-use Rattle.std.proofs.lemmas.Bool.{cases_lt}
+use Rattle.std.proofs.Common.{◌≡◌, ℕ, zero, suc, ◌+◌, ◌<◌, Bool, true, false, ◌||◌, T, ◌⊎◌, List, Some, None, Option, sym, refl, ap, ◌∙◌, subst, inl, inr, add-one, add-zero, zero-add, arith}
+use Rattle.std.proofs.Math.Bool.{or_assoc, or-false}
+use Rattle.std.specs.List.{list_any, range_with_len}
 use Rattle.tariff.specs.Meaning.{Meaning}
 use Rattle.connection.specs.declared.label.Label.{Label}
 use Rattle.search.specs.Working.{layer_at, label_at, costs_no_more, beaten}
 use Rattle.search.specs.declared.record.WorkRecord.{WorkRecord}
 
-or_true : (a b : Bool) → b ≡ true → (a || b) ≡ true
-or_true true b e = refl
-or_true false b e = e
-
-true_or : (a b : Bool) → a ≡ true → (a || b) ≡ true
-true_or true b e = refl
-true_or false b e = let z : ◌≡◌ {A = ℕ} 0 1 = cc in absurd (omega arith)
+-- a test that holds of one of the first numbers, told one number after another
+any_up_to : (test below : ℕ → Bool) → ((k : ℕ) → below (suc k) ≡ (below k || test k)) → (k n : ℕ) → (below k || list_any test (range_with_len k n)) ≡ below (k + n)
+any_up_to test below step k zero = or-false (below k) ∙ ap below (sym (add-zero k))
+any_up_to test below step k (suc n) =
+    let rest = list_any test (range_with_len (k + 1) n) in
+    let up : k + 1 + n ≡ k + suc n = omega arith in
+    sym (or_assoc (below k) (test k) rest)
+    ∙ ap (λ b. b || rest) (sym (step k) ∙ ap below (sym (add-one k)))
+    ∙ any_up_to test below step (k + 1) n
+    ∙ ap below up
 
 either_or : (a b : Bool) → (a || b) ≡ true → (a ≡ true) ⊎ (b ≡ true)
 either_or true b e = inl refl
 either_or false b e = inr e
 
 module _ {A : Type 0} (m : Meaning A) (size : ℕ) (table : List (WorkRecord A)) (at : ℕ) (total : A) where
-  pub beaten_in : (k layer : ℕ) → k < layer → costs_no_more m (label_at table (layer_at size k + at)) total ≡ true → beaten m size table at layer total ≡ true
-  beaten_in k zero h e = absurd (omega arith)
-  beaten_in k (suc layer) h e = go (cases_lt k layer) (λ l. beaten_in k layer l e)
-    where
-      go : ((k < layer) ⊎ (layer ≤ k)) → (k < layer → beaten m size table at layer total ≡ true) → beaten m size table at (suc layer) total ≡ true
-      go (inl l) before = true_or (beaten m size table at layer total) (costs_no_more m (label_at table (layer_at size layer + at)) total) (before l)
-      go (inr g) before =
-          let same : k ≡ layer = omega arith in
-          or_true (beaten m size table at layer total) (costs_no_more m (label_at table (layer_at size layer + at)) total) (subst (λ (j : ℕ). costs_no_more m (label_at table (layer_at size j + at)) total ≡ true) same e)
-
-  pub unbeaten_more : (k : ℕ) → beaten m size table at k total ≡ false → costs_no_more m (label_at table (layer_at size k + at)) total ≡ false → beaten m size table at (k + 1) total ≡ false
-  unbeaten_more k e f = ap (λ j. beaten m size table at j total) (add-one k) ∙ ap₂ (λ x y. x || y) e f
+  -- what is looked through, layer after layer
+  pub any_beats : (layer : ℕ) → list_any (λ k. costs_no_more m (label_at table (layer_at size k + at)) total) (range_with_len 0 layer) ≡ beaten m size table at layer total
+  any_beats layer =
+      any_up_to (λ k. costs_no_more m (label_at table (layer_at size k + at)) total) (λ k. beaten m size table at k total) (λ k. refl) 0 layer
+      ∙ ap (λ k. beaten m size table at k total) (zero-add layer)
 
   -- which layer beats it, and with which label
   pub record Beater (layer : ℕ) : Type 0 where

@@ -2,7 +2,6 @@
 use Rattle.std.proofs.Common.{◌≡◌, ℕ, suc, ◌+◌, ◌<◌, ◌≤◌, T, ◌⊎◌, List, [], ◌∷◌, ◌++◌, length, take, drop, Some, None, Option, sym, refl, ap, ◌∙◌, subst, inl, inr, arith, eqb→eq}
 use Rattle.std.proofs.lemmas.List.{length_push, take_all, take-append-le}
 use Rattle.std.proofs.lemmas.Bool.{cases_lt}
-use Rattle.tariff.specs.Laws.{Connex, Transitive, Keeps, Starts, Counts}
 use Rattle.tariff.specs.Meaning.{Meaning}
 use Rattle.book.specs.Answers.{train_row}
 use Rattle.book.specs.Rules.{stop_at}
@@ -25,10 +24,11 @@ use Rattle.connection.proofs.Tests.{both_left, both_right, both_from, eq→eqb}
 use Rattle.connection.proofs.Times.{Punctual, on_time}
 use Rattle.search.specs.Answers.{Finds}
 use Rattle.search.specs.Ends.{ends_no_dearer, Ends}
-use Rattle.search.specs.Layers.{Timetable, row_of, Trail, Holds, Filled, AllLayers}
+use Rattle.search.specs.Layers.{row_of, Trail, Holds, Filled, AllLayers}
 use Rattle.search.specs.Working.{place, label_in}
 use Rattle.search.specs.declared.ends.End.{End}
 use Rattle.search.specs.declared.record.WorkRecord.{WorkRecord}
+use Rattle.search.proofs.Basis.{Basis}
 use Rattle.search.proofs.LabelsInRecords.{trail_goes_on}
 use Rattle.search.proofs.RowsAreTrains.{many, fits, count_is, stop_is, spot_of, place_below}
 
@@ -36,7 +36,17 @@ use Rattle.search.proofs.RowsAreTrains.{many, fits, count_is, stop_is, spot_of, 
 front_of : {X : Type 0} (front rest : List X) (n : ℕ) → length front ≡ n → take n (front ++ rest) ≡ front
 front_of front rest n e = take-append-le n front rest (omega (arith, e)) ∙ take_all n front (omega (arith, e))
 
-module _ {A : Type 0} (m : Meaning A) (connex : Connex m) (transitive : Transitive m) (keeps : Keeps m) (none : Starts m) (counts : Counts m) (runs : Pairs) (q : Query) (rows : List TrainRow) (stops : List StopRow) (ok : Timetable rows stops) (table : List (WorkRecord A)) (layers : ℕ) (few : layers ≤ q.changes + 1) (all : AllLayers rows (length stops) table q layers) (filled : Filled m runs q rows stops table layers) where
+-- what is known once the layers are filled
+pub record Searched {A : Type 0} (m : Meaning A) (runs : Pairs) (q : Query) (rows : List TrainRow) (stops : List StopRow) (table : List (WorkRecord A)) (layers : ℕ) : Type 0 where
+  pub basis : Basis m rows stops
+  pub few : layers ≤ q.changes + 1
+  pub all : AllLayers rows (length stops) table q layers
+  pub filled : Filled m runs q rows stops table layers
+
+module _ {A : Type 0} {m : Meaning A} {runs : Pairs} {q : Query} {rows : List TrainRow} {stops : List StopRow} {table : List (WorkRecord A)} {layers : ℕ} (known : Searched m runs q rows stops table layers) where
+  abbrev basis : Basis m rows stops
+  basis = known.basis
+
   abbrev size : ℕ
   size = length stops
 
@@ -44,7 +54,7 @@ module _ {A : Type 0} (m : Meaning A) (connex : Connex m) (transitive : Transiti
   trains = trains_in rows stops
 
   punctual : (n : ℕ) → Punctual (stops_at trains n)
-  punctual = on_time trains ok.lawful
+  punctual = on_time trains basis.timetable.lawful
 
   abbrev label : ℕ → ℕ → Shift → ℕ → Option (Label A)
   label k n s i = label_in size table k s (row_of rows n i)
@@ -53,7 +63,7 @@ module _ {A : Type 0} (m : Meaning A) (connex : Connex m) (transitive : Transiti
   in_rows n h = omega (arith, many rows stops)
 
   on_train : (n i : ℕ) → n < length trains → i < length (stops_at trains n) → i < (train_row n rows).count
-  on_train n i ln li = omega (arith, count_is rows stops ok.ordered n (in_rows n ln))
+  on_train n i ln li = omega (arith, count_is rows stops basis.timetable.ordered n (in_rows n ln))
 
   -- ---- every way is beaten by a label, or by a way with fewer changes
   abbrev BeatenOrSooner : ℕ → ℕ → Shift → ℕ → A → Type 0
@@ -61,21 +71,21 @@ module _ {A : Type 0} (m : Meaning A) (connex : Connex m) (transitive : Transiti
 
   in_layers : (k n : ℕ) (s : Shift) (i : ℕ) (t : A) → k < layers → n < length trains → i < length (stops_at trains n) → Arrives m trains runs q k n s i t → BeatenOrSooner k n s i t
   in_layers k n s i t lk ln li x =
-      elim ((filled k n s i lk (in_rows n ln) (on_train n i ln li)).none_cheaper t x) [ inl b ↦ inl (lk, b) | inr d ↦ inr d ]
+      elim ((known.filled k n s i lk (in_rows n ln) (on_train n i ln li)).none_cheaper t x) [ inl b ↦ inl (lk, b) | inr d ↦ inr d ]
 
   -- the last layer has no label, and so nothing is new there
-  last_has_none : (k : ℕ) → layers ≡ suc k → ((n : ℕ) (s : Shift) (i : ℕ) → n < length rows → i < (train_row n rows).count → label k n s i ≡ None) → NothingNew m connex transitive keeps none counts trains punctual runs q k
+  last_has_none : (k : ℕ) → layers ≡ suc k → ((n : ℕ) (s : Shift) (i : ℕ) → n < length rows → i < (train_row n rows).count → label k n s i ≡ None) → NothingNew m basis.connex basis.transitive basis.keeps basis.starts basis.counts trains punctual runs q k
   last_has_none k e empty n s i t ln li x =
-      let h = subst (Holds m runs q rows stops table k n s i) (empty n s i (in_rows n ln) (on_train n i ln li)) (filled k n s i (omega arith) (in_rows n ln) (on_train n i ln li)) in
+      let h = subst (Holds m runs q rows stops table k n s i) (empty n s i (in_rows n ln) (on_train n i ln li)) (known.filled k n s i (omega arith) (in_rows n ln) (on_train n i ln li)) in
       elim (h.none_cheaper t x) [ inl b ↦ absurd b | inr d ↦ d ]
 
   past_layers : (k n : ℕ) (s : Shift) (i : ℕ) (t : A) → k < q.changes + 1 → layers ≤ k → n < length trains → i < length (stops_at trains n) → Arrives m trains runs q k n s i t → BeatenOrSooner k n s i t
   past_layers k n s i t lk h ln li x =
-      elim all [
+      elim known.all [
         | inl e ↦ absurd (omega (arith, e))
         | inr w ↦
-            let empty = λ (n : ℕ) (s : Shift) (i : ℕ) (a : n < length rows) (b : i < (train_row n rows).count). w.2 n s i a b (omega arith) (place_below s size (row_of rows n i) (omega (arith, fits rows stops ok.ordered n a))) in
-            inr (nothing_from m connex transitive keeps none counts trains punctual runs q w.0 (last_has_none w.0 w.1 empty) k (omega (arith, w.1)) n s i t ln li x)
+            let empty = λ (n : ℕ) (s : Shift) (i : ℕ) (a : n < length rows) (b : i < (train_row n rows).count). w.2 n s i a b (omega arith) (place_below s size (row_of rows n i) (omega (arith, fits rows stops basis.timetable.ordered n a))) in
+            inr (nothing_from m basis.connex basis.transitive basis.keeps basis.starts basis.counts trains punctual runs q w.0 (last_has_none w.0 w.1 empty) k (omega (arith, w.1)) n s i t ln li x)
       ]
 
   settled : (k : ℕ) → k < q.changes + 1 → (n : ℕ) (s : Shift) (i : ℕ) (t : A) → n < length trains → i < length (stops_at trains n) → Arrives m trains runs q k n s i t → BeatenOrSooner k n s i t
@@ -85,8 +95,8 @@ module _ {A : Type 0} (m : Meaning A) (connex : Connex m) (transitive : Transiti
   -- ---- ends are labels at the destination
   end_of : (k n : ℕ) (s : Shift) (i : ℕ) (l : Label A) → k < layers → n < length trains → i < length (stops_at trains n) → T (ends trains q n i) → label k n s i ≡ Some l → Ends stops table layers q.destination (record { total = l.total; layer = k; place = place size s (row_of rows n i) })
   end_of k n s i l lk ln li e held =
-      let same = stop_is rows stops ok.ordered n i (in_rows n ln) (on_train n i ln li) in
-      let inside = fits rows stops ok.ordered n (in_rows n ln) in
+      let same = stop_is rows stops basis.timetable.ordered n i (in_rows n ln) (on_train n i ln li) in
+      let inside = fits rows stops basis.timetable.ordered n (in_rows n ln) in
       let on = on_train n i ln li in
       record {
         shift = s;
@@ -103,7 +113,7 @@ module _ {A : Type 0} (m : Meaning A) (connex : Connex m) (transitive : Transiti
 
   pub nothing_found : Best (ends_no_dearer m) (Ends stops table layers q.destination) None → HasNoConnection trains runs q
   nothing_found best =
-      none_found m connex transitive keeps none counts trains punctual runs q layers label settled (λ k n s i l lk ln li e held. best _ (end_of k n s i l lk ln li e held))
+      none_found m basis.connex basis.transitive basis.keeps basis.starts basis.counts trains punctual runs q layers label settled (λ k n s i l lk ln li e held. best _ (end_of k n s i l lk ln li e held))
 
   -- ---- the cheapest of them
   module _ (e : End A) (best : Best (ends_no_dearer m) (Ends stops table layers q.destination) (Some e)) where
@@ -111,13 +121,13 @@ module _ {A : Type 0} (m : Meaning A) (connex : Connex m) (transitive : Transiti
     at = best.0
 
     stop : (n : ℕ) × (i : ℕ) × (n < length rows) × (i < (train_row n rows).count) × (at.row ≡ row_of rows n i)
-    stop = spot_of rows stops ok.ordered at.row at.inside
+    stop = spot_of rows stops basis.timetable.ordered at.row at.inside
 
     held : label e.layer stop.0 at.shift stop.1 ≡ Some at.label
     held = ap (label_in size table e.layer at.shift) (sym stop.4) ∙ at.held
 
     settles : Holds m runs q rows stops table e.layer stop.0 at.shift stop.1 (Some at.label)
-    settles = subst (Holds m runs q rows stops table e.layer stop.0 at.shift stop.1) held (filled e.layer stop.0 at.shift stop.1 at.in_layers stop.2 stop.3)
+    settles = subst (Holds m runs q rows stops table e.layer stop.0 at.shift stop.1) held (known.filled e.layer stop.0 at.shift stop.1 at.in_layers stop.2 stop.3)
 
     aboard : Aboard trains runs q m e.layer stop.0 at.shift stop.1 at.label.total
     aboard = settles.is_one.1.0
@@ -141,7 +151,7 @@ module _ {A : Type 0} (m : Meaning A) (connex : Connex m) (transitive : Transiti
 
     ends_there : T (ends trains q stop.0 stop.1)
     ends_there =
-        let same : stop_at stops at.row ≡ stop_of trains stop.0 stop.1 = ap (stop_at stops) stop.4 ∙ sym (stop_is rows stops ok.ordered stop.0 stop.1 stop.2 stop.3) in
+        let same : stop_at stops at.row ≡ stop_of trains stop.0 stop.1 = ap (stop_at stops) stop.4 ∙ sym (stop_is rows stops basis.timetable.ordered stop.0 stop.1 stop.2 stop.3) in
         both_from (may_alight (stop_of trains stop.0 stop.1)) _ (subst (λ (x : StopRow). T (may_alight x)) same at.off) (eq→eqb _ _ (ap (λ (x : StopRow). x.station) (sym same) ∙ at.here))
 
     whole_cheapest : Cheapest m trains runs q e.total whole
@@ -149,14 +159,14 @@ module _ {A : Type 0} (m : Meaning A) (connex : Connex m) (transitive : Transiti
     whole_cheapest =
         let n = stop.0 in
         let i = stop.1 in
-        let li : i < length (stops_at trains n) = omega (arith, count_is rows stops ok.ordered n stop.2, stop.3) in
+        let li : i < length (stops_at trains n) = omega (arith, count_is rows stops basis.timetable.ordered n stop.2, stop.3) in
         let same_rides : aboard.boarded.rides ++ (ride n at.shift aboard.board i ∷ []) ≡ whole = ap (λ b. aboard.boarded.rides ++ (ride n at.shift b i ∷ [])) (sym settles.is_one.1.1) in
         let least : (j n' : ℕ) (s' : Shift) (i' : ℕ) (l : Label A) → j < layers → n' < length trains → i' < length (stops_at trains n') → T (ends trains q n' i') → label j n' s' i' ≡ Some l → T (m.at_most at.label.total l.total) =
         λ j n' s' i' l lj ln' li' e' h. subst (λ (t : A). T (m.at_most t l.total)) at.total_is (best.1 _ (end_of j n' s' i' l lj ln' li' e' h))
         in
         subst (λ (t : A). Cheapest m trains runs q t whole) (sym at.total_is)
         (subst (Cheapest m trains runs q at.label.total) same_rides
-        (cheapest_found m connex transitive keeps none counts trains punctual runs q layers label settled e.layer n at.shift i at.label.total li aboard (omega (arith, end_layer)) ends_there least))
+        (cheapest_found m basis.connex basis.transitive basis.keeps basis.starts basis.counts trains punctual runs q layers label settled e.layer n at.shift i at.label.total li aboard (omega (arith, end_layer, known.few)) ends_there least))
 
     -- ---- as they stand in the ride list
     module _ (old new : List Ride) (written : new ≡ whole ++ drop (e.layer + 1) old) where

@@ -1,7 +1,6 @@
 -- The labels of a run, filled in stop by stop, settle its stops.
 use Rattle.std.proofs.Common.{◌≡◌, ℕ, suc, ◌+◌, ◌-◌, ◌*◌, ◌<◌, ◌≤◌, Bool, true, false, cond, ◌||◌, ◌≢◌, ◌⊎◌, List, length, get_or, set, is_some, Some, None, Option, sym, refl, ap, ◌∙◌, subst, ap₂, inl, inr, add_assoc, add-one, arith, get_or-set_other, get_or-set_same}
 use Rattle.std.proofs.lemmas.Bool.{cases_lt}
-use Rattle.tariff.specs.Laws.{Connex, Transitive, Keeps, Starts, Counts}
 use Rattle.tariff.specs.Meaning.{Meaning}
 use Rattle.book.specs.Answers.{train_row}
 use Rattle.book.specs.Rules.{stop_at}
@@ -19,10 +18,11 @@ use Rattle.connection.specs.declared.query.Query.{Query}
 use Rattle.connection.specs.declared.ride.Shift.{Shift}
 use Rattle.connection.proofs.Onward.{settles_first_stop, settles_next_stop, settles_beaten}
 use Rattle.connection.proofs.Times.{Punctual, on_time}
-use Rattle.search.specs.Layers.{Timetable, row_of, Trail, Holds, Filled, UnchangedBelow, NoLabelBetween, SettledBetween, Fills, RunAsked, run_begins, run_ends}
+use Rattle.search.specs.Layers.{row_of, Trail, Holds, Filled, UnchangedBelow, NoLabelBetween, SettledBetween, Fills, RunAsked, run_begins, run_ends}
 use Rattle.search.specs.Records.{blank, record_of, label_of}
 use Rattle.search.specs.Working.{may_use, number, place, layer_at, part_at, label_at, label_in, beaten, unless_beaten}
 use Rattle.search.specs.declared.record.WorkRecord.{WorkRecord}
+use Rattle.search.proofs.Basis.{Basis}
 use Rattle.search.proofs.BeatenLabels.{Beater, beater}
 use Rattle.search.proofs.Chaining.{not_some}
 use Rattle.search.proofs.LabelsInRecords.{label_kept}
@@ -30,7 +30,7 @@ use Rattle.search.proofs.RowsAreTrains.{fits, count_is, stop_is, same_row, same_
 use Rattle.search.proofs.Unchanged.{label_same, unchanged_sym, boarding_same, filled_same}
 
 pub or_none : (a b : Bool) → (a || b) ≡ false → (a ≡ false) × (b ≡ false)
-or_none true b e = let z : ◌≡◌ {A = ℕ} 0 1 = cc in absurd (omega arith)
+or_none true b e = cc
 or_none false b e = (refl, e)
 
 -- ---- one record is written
@@ -42,7 +42,10 @@ module _ {A : Type 0} (table : List (WorkRecord A)) (at : ℕ) (o : Option (Labe
   pub written_here : at < length table → label_at (set table at (record_of o)) at ≡ o
   written_here h = ap label_of (get_or-set_same table at (record_of o) blank h) ∙ label_kept o
 
-module _ {A : Type 0} (m : Meaning A) (q : Query) (rows : List TrainRow) (stops : List StopRow) (ok : Timetable rows stops) (layer n : ℕ) (s : Shift) (usable : Bool) (ln : n < length rows) where
+pub unchanged_still : {A : Type 0} (b i : ℕ) (old new next : List (WorkRecord A)) (o : Option (Label A)) → UnchangedBelow b old new → next ≡ set new (b + i) (record_of o) → UnchangedBelow b old next
+unchanged_still b i old new next o same e z h = ap (λ t. get_or t z blank) e ∙ written_same new (b + i) o z (inl (omega arith)) ∙ same z h
+
+module _ {A : Type 0} (m : Meaning A) (q : Query) (rows : List TrainRow) (stops : List StopRow) (layer n : ℕ) (s : Shift) (usable : Bool) where
   abbrev size : ℕ
   size = length stops
 
@@ -69,12 +72,12 @@ module _ {A : Type 0} (m : Meaning A) (q : Query) (rows : List TrainRow) (stops 
   layer_before_start : layer_at size layer ≤ start
   layer_before_start = omega arith
 
-  module _ (connex : Connex m) (transitive : Transitive m) (keeps : Keeps m) (none : Starts m) (counts : Counts m) where
+  module _ (basis : Basis m rows stops) (ln : n < length rows) where
     abbrev trains : List Train
     trains = trains_in rows stops
 
     punctual : (k : ℕ) → Punctual (stops_at trains k)
-    punctual = on_time trains ok.lawful
+    punctual = on_time trains basis.timetable.lawful
 
     pub filled_none : (old : List (WorkRecord A)) → FilledTo old old 0 false None
     filled_none old =
@@ -82,7 +85,7 @@ module _ {A : Type 0} (m : Meaning A) (q : Query) (rows : List TrainRow) (stops 
           unchanged = λ z h. refl;
           nothing = λ e j h. absurd (omega arith);
           settled = λ runs may filled j h. absurd (omega arith);
-          coming = λ runs may filled h. settles_first_stop m connex transitive keeps none counts trains punctual runs q (Trail rows size old layer) layer n s;
+          coming = λ runs may filled h. settles_first_stop m basis.connex basis.transitive basis.keeps basis.starts basis.counts trains punctual runs q (Trail rows size old layer) layer n s;
         }
 
     -- ---- a label that fewer changes beat is dropped
@@ -91,11 +94,11 @@ module _ {A : Type 0} (m : Meaning A) (q : Query) (rows : List TrainRow) (stops 
       dropped l b h =
           let k = b.in_layer in
           let row = row_of rows n i in
-          let inside = fits rows stops ok.ordered n ln in
+          let inside = fits rows stops basis.timetable.ordered n ln in
           let held_new : label_in size new k s row ≡ Some b.label = ap (label_at new) (add_assoc (layer_at size k) (number s * size) row) ∙ b.held in
           let same = label_same size k layer s row old new b.earlier (omega arith) (λ z w. unchanged z (omega (arith, layer_before_start))) in
           let there = subst (Holds m runs q rows stops old k n s i) (sym same ∙ held_new) (filled k n s i b.earlier ln li) in
-          settles_beaten m connex transitive keeps none counts trains punctual runs q (Trail rows size old layer) layer n s i l k b.label.total b.earlier there.is_one.0 b.no_dearer h
+          settles_beaten m basis.connex basis.transitive basis.keeps basis.starts basis.counts trains punctual runs q (Trail rows size old layer) layer n s i l k b.label.total b.earlier there.is_one.0 b.no_dearer h
 
       kept : (o : Option (Label A)) → Holds m runs q rows stops old layer n s i o → Holds m runs q rows stops old layer n s i (unless_beaten m size new (place size s (row_of rows n i)) layer o)
       kept None h = h
@@ -107,8 +110,8 @@ module _ {A : Type 0} (m : Meaning A) (q : Query) (rows : List TrainRow) (stops 
 
     -- ---- one stop more
     module _ (old new : List (WorkRecord A)) (i : ℕ) (found : Bool) (aboard KeptLabel : Option (Label A)) (state : FilledTo old new i found aboard) (li : i < count) (room : start + i < length new) (is_kept : KeptLabel ≡ unless_beaten m size new (place size s (row_of rows n i)) layer aboard) (next : List (WorkRecord A)) (is_next : next ≡ set new (start + i) (record_of KeptLabel)) where
-      pub next_unchanged : UnchangedBelow start old next
-      next_unchanged z h = ap (λ t. get_or t z blank) is_next ∙ written_same new (start + i) KeptLabel z (inl (omega arith)) ∙ state.unchanged z h
+      next_unchanged : UnchangedBelow start old next
+      next_unchanged = unchanged_still start i old new next KeptLabel state.unchanged is_next
 
       kept_holds : When (λ runs. Holds m runs q rows stops old layer n s i KeptLabel) old
       kept_holds runs may filled = subst (Holds m runs q rows stops old layer n s i) (sym is_kept) (kept old new state.unchanged runs filled i li aboard (state.coming runs may filled li))
@@ -136,18 +139,18 @@ module _ {A : Type 0} (m : Meaning A) (q : Query) (rows : List TrainRow) (stops 
           }
 
       -- ---- on to the next stop
-      pub comes_next : (boarded aboard' : Option (Label A)) → suc i < count → When (λ runs. SettlesBoarding m trains runs q (Trail rows size next layer) layer n s i boarded) next → aboard' ≡ mapped (extended m (hop (stop_at stops (first + i)) (stop_at stops (first + i + 1)))) (cheaper (no_dearer m) boarded (mapped (extended m (stand (stop_at stops (first + i)))) KeptLabel)) → When (λ runs. i + 1 < count → Holds m runs q rows stops old layer n s (i + 1) aboard') old
-      comes_next boarded aboard' on boards ea runs may filled h =
+      pub comes_next : (stop there : StopRow) (boarded aboard' : Option (Label A)) → stop ≡ stop_at stops (row_of rows n i) → there ≡ stop_at stops (row_of rows n (i + 1)) → i + 1 < count → When (λ runs. SettlesBoarding m trains runs q (Trail rows size next layer) layer n s i boarded) next → aboard' ≡ mapped (extended m (hop stop there)) (cheaper (no_dearer m) boarded (mapped (extended m (stand stop)) KeptLabel)) → When (λ runs. i + 1 < count → Holds m runs q rows stops old layer n s (i + 1) aboard') old
+      comes_next stop there boarded aboard' at_stop at_there on boards ea runs may filled h =
           let ss = stops_at trains n in
           let below : UnchangedBelow (layer_at size layer) old next = λ z w. next_unchanged z (omega (arith, layer_before_start)) in
           let back : UnchangedBelow (layer_at size layer) next old = unchanged_sym (layer_at size layer) old next below in
-          let b = boarding_same m runs q rows stops ok.ordered layer n s i boarded next old back (boards runs may (filled_same m runs q rows stops ok.ordered layer old next below filled)) in
-          let here : stop_of trains n i ≡ stop_at stops (first + i) = stop_is rows stops ok.ordered n i ln li in
-          let there : stop_of trains n (suc i) ≡ stop_at stops (first + i + 1) = stop_is rows stops ok.ordered n (suc i) ln on ∙ ap (stop_at stops) (omega arith) in
-          let long : suc i < length ss = omega (arith, count_is rows stops ok.ordered n ln) in
-          let goes = settles_next_stop m connex transitive keeps none counts trains punctual runs q (Trail rows size old layer) layer n s i long boarded KeptLabel b (kept_holds runs may filled) in
+          let b = boarding_same m runs q rows stops basis.timetable.ordered layer n s i boarded next old back (boards runs may (filled_same m runs q rows stops basis.timetable.ordered layer old next below filled)) in
+          let is_stop : stop_of trains n i ≡ stop = stop_is rows stops basis.timetable.ordered n i ln li ∙ sym at_stop in
+          let is_there : stop_of trains n (suc i) ≡ there = stop_is rows stops basis.timetable.ordered n (suc i) ln (omega arith) ∙ ap (λ j. stop_at stops (row_of rows n j)) (sym (add-one i)) ∙ sym at_there in
+          let long : suc i < length ss = omega (arith, count_is rows stops basis.timetable.ordered n ln) in
+          let goes = settles_next_stop m basis.connex basis.transitive basis.keeps basis.starts basis.counts trains punctual runs q (Trail rows size old layer) layer n s i long boarded KeptLabel b (kept_holds runs may filled) in
           let same : mapped (extended m (hop_at ss i)) (cheaper (no_dearer m) boarded (mapped (extended m (stand_at ss i)) KeptLabel)) ≡ aboard' =
-          ap₂ (λ (x y : StopRow). mapped (extended m (hop x y)) (cheaper (no_dearer m) boarded (mapped (extended m (stand x)) KeptLabel))) here there ∙ sym ea
+          ap₂ (λ (x y : StopRow). mapped (extended m (hop x y)) (cheaper (no_dearer m) boarded (mapped (extended m (stand x)) KeptLabel))) is_stop is_there ∙ sym ea
           in
           subst (λ (j : ℕ). Holds m runs q rows stops old layer n s j aboard') (sym (add-one i)) (subst (Holds m runs q rows stops old layer n s (suc i)) same goes)
 
@@ -155,13 +158,13 @@ module _ {A : Type 0} (m : Meaning A) (q : Query) (rows : List TrainRow) (stops 
     -- a place between the run's first and last is one of its stops
     of_the_run : (P : ℕ → Shift → ℕ → Type 0) (n' : ℕ) (s' : Shift) (i' : ℕ) → n' < length rows → i' < (train_row n' rows).count → place size s first ≤ place size s' (row_of rows n' i') → place size s' (row_of rows n' i') < place size s (row_of rows n count) → ((i : ℕ) → i < count → P n s i) → P n' s' i'
     of_the_run P n' s' i' ln' li' low high all =
-        let mine = fits rows stops ok.ordered n ln in
-        let its = fits rows stops ok.ordered n' ln' in
+        let mine = fits rows stops basis.timetable.ordered n ln in
+        let its = fits rows stops basis.timetable.ordered n' ln' in
         let x = place size s' (row_of rows n' i') in
         let i = x - place size s first in
         let li : i < count = omega arith in
         let same = same_place s s' size (row_of rows n i) (row_of rows n' i') (omega arith) (omega arith) (omega arith) in
-        let who = same_row rows stops ok.ordered n i n' i' ln li ln' li' same.1 in
+        let who = same_row rows stops basis.timetable.ordered n i n' i' ln li ln' li' same.1 in
         subst (λ (k : ℕ). P k s' i') who.0 (subst (λ (t : Shift). P n t i') same.0 (subst (P n s) who.1 (all i li)))
 
     module _ (old new : List (WorkRecord A)) (found : Bool) (aboard : Option (Label A)) (state : FilledTo old new count found aboard) where

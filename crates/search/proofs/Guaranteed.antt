@@ -1,5 +1,5 @@
 -- The line that is sold follows from what the call answers over its tables.
-use Rattle.std.proofs.Common.{◌≡◌, ℕ, ◌+◌, ◌*◌, ◌<◌, ◌≤◌, Bool, true, false, cond, eqb, ltb, List, length, take, replicate, Some, None, Ok, Err, Option, Result, sym, refl, ap, ◌∙◌, subst, arith}
+use Rattle.std.proofs.Common.{◌≡◌, ℕ, ◌<◌, ◌≤◌, Bool, true, false, cond, eqb, ltb, List, length, take, replicate, Some, None, Ok, Err, Option, Result, sym, refl, ap, ◌∙◌, subst, arith}
 use Rattle.std.proofs.lemmas.Bool.{or_parts, eqb-false, ltb-false}
 use Rattle.tariff.specs.Meaning.{Meaning}
 use Rattle.book.specs.Answers.{ok_unless, check_answer}
@@ -42,8 +42,7 @@ module _ (b : ABook) (trains : List TrainRow) (stops : List StopRow) where
       go : (h : Bool) → HoldsSo ≡ h → Ok tt ≡ check_answer b trains stops → HoldsSo ≡ true
       go true f e = f
       go false f e =
-          let z : Ok tt ≡ Err Damaged = e ∙ ap told_by f in
-          let w : ◌≡◌ {A = ℕ} 0 1 = cc in absurd (omega arith)
+          let z : Ok tt ≡ Err Damaged = e ∙ ap told_by f in cc
 
   module _ (q : Query) (ride_room work_room : ℕ) where
     pub refused_first : (r : BookRefusal) → Err r ≡ check_answer b trains stops → search_refusal b trains stops q ride_room work_room ≡ Some (Book r)
@@ -52,8 +51,7 @@ module _ (b : ABook) (trains : List TrainRow) (stops : List StopRow) where
       where
         go : (h : Bool) → HoldsSo ≡ h → search_refusal b trains stops q ride_room work_room ≡ Some (Book r)
         go true f =
-            let z : Err r ≡ Ok tt = e ∙ ap told_by f in
-            let w : ◌≡◌ {A = ℕ} 0 1 = cc in absurd (omega arith)
+            let z : Err r ≡ Ok tt = e ∙ ap told_by f in cc
         go false f =
             let z : Err r ≡ Err Damaged = e ∙ ap told_by f in
             let same : Damaged ≡ r = cc in
@@ -64,7 +62,7 @@ module _ (b : ABook) (trains : List TrainRow) (stops : List StopRow) where
     unfolding search_refusal
     after_check f = ap (λ h. or_damaged (cond h (Some (listed b.trains trains stops)) None) (λ ts. query_fault ts q ride_room work_room)) f
 
-    pub same_refusal : HoldsSo ≡ true → query_refusal q (length (take b.stops stops)) ride_room work_room ≡ search_refusal b trains stops q ride_room work_room
+    same_refusal : HoldsSo ≡ true → query_refusal q (length (take b.stops stops)) ride_room work_room ≡ search_refusal b trains stops q ride_room work_room
     same_refusal f =
         ap (λ n. query_refusal q n ride_room work_room) (long_stops b.trains b.stops trains stops f ∙ sym (stops_counted b.trains b.stops trains stops f))
         ∙ sym (after_check f)
@@ -73,42 +71,24 @@ module _ (b : ABook) (trains : List TrainRow) (stops : List StopRow) where
 abbrev Faults : Bool → Bool → Bool → Bool → Option Refusal
 Faults w x y z = or_else (when w BadQuery) (or_else (when x SameStation) (or_else (when y ShortRides) (when z ShortWork)))
 
-pub record Passes (w x y z : Bool) : Type 0 where
-  pub good : w ≡ false
-  pub apart : x ≡ false
-  pub rides : y ≡ false
-  pub records : z ≡ false
-
-passes : (w x y z : Bool) → Faults w x y z ≡ None → Passes w x y z
-passes true x y z e = let o : ◌≡◌ {A = ℕ} 0 1 = cc in absurd (omega arith)
-passes false true y z e = let o : ◌≡◌ {A = ℕ} 0 1 = cc in absurd (omega arith)
-passes false false true z e = let o : ◌≡◌ {A = ℕ} 0 1 = cc in absurd (omega arith)
-passes false false false true e = let o : ◌≡◌ {A = ℕ} 0 1 = cc in absurd (omega arith)
-passes false false false false e = record { good = refl; apart = refl; rides = refl; records = refl }
+not_bad : (w x y z : Bool) → Faults w x y z ≡ None → w ≡ false
+not_bad true x y z e = cc
+not_bad false x y z e = refl
 
 never_none : (w x y z : Bool) → Faults w x y z ≡ Some NoConnection → ⊥
-never_none true x y z e = let o : ◌≡◌ {A = ℕ} 0 1 = cc in omega arith
-never_none false true y z e = let o : ◌≡◌ {A = ℕ} 0 1 = cc in omega arith
-never_none false false true z e = let o : ◌≡◌ {A = ℕ} 0 1 = cc in omega arith
-never_none false false false true e = let o : ◌≡◌ {A = ℕ} 0 1 = cc in omega arith
-never_none false false false false e = let o : ◌≡◌ {A = ℕ} 0 1 = cc in omega arith
+never_none true x y z e = cc
+never_none false true y z e = cc
+never_none false false true z e = cc
+never_none false false false true e = cc
+never_none false false false false e = cc
 
 module _ (q : Query) (stops ride_room work_room : ℕ) where
-  pub not_refused : query_refusal q stops ride_room work_room ≡ None → Passes (bad_query q) (eqb q.origin q.destination) (ltb ride_room (most_rides q)) (ltb work_room (records_needed stops q))
-  not_refused e = passes (bad_query q) (eqb q.origin q.destination) (ltb ride_room (most_rides q)) (ltb work_room (records_needed stops q)) e
-
   pub not_none : query_refusal q stops ride_room work_room ≡ Some NoConnection → ⊥
   not_none e = never_none (bad_query q) (eqb q.origin q.destination) (ltb ride_room (most_rides q)) (ltb work_room (records_needed stops q)) e
 
-  pub enough_rides : query_refusal q stops ride_room work_room ≡ None → q.changes + 1 ≤ ride_room
-  enough_rides e = ltb-false ride_room (q.changes + 1) (not_refused e).rides
-
-  pub enough_records : query_refusal q stops ride_room work_room ≡ None → 3 * stops * (q.changes + 1) ≤ work_room
-  enough_records e = ltb-false work_room (3 * stops * (q.changes + 1)) (not_refused e).records
-
   pub askable : query_refusal q stops ride_room work_room ≡ None → Askable q
   askable e =
-      let f = or_parts _ _ (not_refused e).good in
+      let f = or_parts _ _ (not_bad (bad_query q) (eqb q.origin q.destination) (ltb ride_room (most_rides q)) (ltb work_room (records_needed stops q)) e) in
       let g = or_parts _ _ f.0 in
       let h = or_parts _ _ g.0 in
       let i = or_parts _ _ h.0 in
@@ -125,9 +105,9 @@ module _ {Total : Type 0} (m : Meaning Total) (runs : Pairs) (q : Query) (ride_r
   of_trains : (trains : List Train) (o : Option Refusal) → query_fault trains q ride_room work_room ≡ o → (r : Result (Total × ℕ) Refusal) → Answered o (λ found. FoundOrNone m runs trains q found rides) r → Guarantee m runs trains q ride_room work_room r rides
   of_trains trains (Some reason) e r a =
       record {
-        cheapest = λ total count f. let z : ◌≡◌ {A = ℕ} 0 1 = cc (sym a ∙ f) in absurd (omega arith);
+        cheapest = λ total count f. cc (sym a ∙ f);
         none = λ f. let same : reason ≡ NoConnection = err_same reason NoConnection (sym a ∙ f) in absurd (not_none q (all_stops trains) ride_room work_room (e ∙ ap Some same));
-        says_none = λ f. let z : ◌≡◌ {A = ℕ} 0 1 = cc (sym e ∙ f) in absurd (omega arith);
+        says_none = λ f. cc (sym e ∙ f);
       }
     where
       err_same : (x y : Refusal) → ◌≡◌ {A = Result (Total × ℕ) Refusal} (Err x) (Err y) → x ≡ y
@@ -137,7 +117,7 @@ module _ {Total : Type 0} (m : Meaning Total) (runs : Pairs) (q : Query) (ride_r
         cheapest = λ total count f.
             let same : found ≡ (total, count) = ok_same found (total, count) f in
             subst (λ (x : Total × ℕ). Finds m runs trains q x.0 x.1 rides) same a;
-        none = λ f. let z : ◌≡◌ {A = ℕ} 0 1 = cc f in absurd (omega arith);
+        none = λ f. cc f;
         says_none = λ f no. absurd (no _ a.cheapest.connection);
       }
     where
@@ -145,7 +125,7 @@ module _ {Total : Type 0} (m : Meaning Total) (runs : Pairs) (q : Query) (ride_r
       ok_same x y p = cc
   of_trains trains None e (Err reason) a =
       record {
-        cheapest = λ total count f. let z : ◌≡◌ {A = ℕ} 0 1 = cc f in absurd (omega arith);
+        cheapest = λ total count f. cc f;
         none = λ f. (e, a.1);
         says_none = λ f no. ap Err a.0;
       }
@@ -153,7 +133,7 @@ module _ {Total : Type 0} (m : Meaning Total) (runs : Pairs) (q : Query) (ride_r
   -- over the tables, where the rows mean these trains
   module _ (b : ABook) (trains : List TrainRow) (stops : List StopRow) (r : Result (Total × ℕ) Refusal) (answer : Answered (search_refusal b trains stops q ride_room work_room) (λ found. FoundOrNone m runs (listed b.trains trains stops) q found rides) r) where
     by_holding : (h : Bool) → holds b.trains b.stops trains stops ≡ h → (ts : List Train) → cond h (Some (listed b.trains trains stops)) None ≡ Some ts → Guarantee m runs ts q ride_room work_room r rides
-    by_holding false f ts e = let z : ◌≡◌ {A = ℕ} 0 1 = cc in absurd (omega arith)
+    by_holding false f ts e = cc
     by_holding true f ts e =
         let same = some_same (listed b.trains trains stops) ts e in
         subst (λ (l : List Train). Guarantee m runs l q ride_room work_room r rides) same
@@ -179,20 +159,28 @@ module _ {Total : Type 0} (o : Option Refusal) where
 
 -- the parts of the tables that are handed on hold a timetable of the same trains
 pub record Handed (b : ABook) (trains : List TrainRow) (stops : List StopRow) (rows : List TrainRow) (used : List StopRow) : Type 0 where
+  pub held : holds b.trains b.stops trains stops ≡ true
   pub timetable : Timetable rows used
   pub same : trains_in rows used ≡ listed b.trains trains stops
   pub few : length used ≤ 4096
   pub counted : used ≡ take b.stops stops
 
-pub handed : (b : ABook) (trains : List TrainRow) (stops : List StopRow) (n s : ℕ) → holds b.trains b.stops trains stops ≡ true → SoundIsTheRules → n ≡ b.trains → s ≡ b.stops → Handed b trains stops (take n trains) (take s stops)
-handed b trains stops n s held rules en es =
-    let ok = in_order b.trains b.stops trains stops held in
-    let here : Handed b trains stops (take b.trains trains) (take b.stops stops) =
-    record {
-      timetable = record { ordered = ok; lawful = keep_the_rules (take b.trains trains) (take b.stops stops) ok rules; timely = timely (take b.trains trains) (take b.stops stops) ok rules };
-      same = same_trains b.trains b.stops trains stops held;
-      few = ok.few_stops;
-      counted = refl;
-    }
-    in
-    subst (λ (x : ℕ). Handed b trains stops (take x trains) (take s stops)) (sym en) (subst (λ (y : ℕ). Handed b trains stops (take b.trains trains) (take y stops)) (sym es) here)
+module _ (b : ABook) (trains : List TrainRow) (stops : List StopRow) where
+  pub handed : (n s : ℕ) → SoundIsTheRules → Ok tt ≡ check_answer b trains stops → n ≡ b.trains → s ≡ b.stops → Handed b trains stops (take n trains) (take s stops)
+  handed n s rules checked en es =
+      let held = passed b trains stops checked in
+      let ok = in_order b.trains b.stops trains stops held in
+      let here : Handed b trains stops (take b.trains trains) (take b.stops stops) =
+      record {
+        held = held;
+        timetable = record { ordered = ok; lawful = keep_the_rules (take b.trains trains) (take b.stops stops) ok rules; timely = timely (take b.trains trains) (take b.stops stops) ok rules };
+        same = same_trains b.trains b.stops trains stops held;
+        few = ok.few_stops;
+        counted = refl;
+      }
+      in
+      subst (λ (x : ℕ). Handed b trains stops (take x trains) (take s stops)) (sym en) (subst (λ (y : ℕ). Handed b trains stops (take b.trains trains) (take y stops)) (sym es) here)
+
+  -- over them the query is refused as over the tables
+  pub refused_alike : (rows : List TrainRow) (used : List StopRow) → Handed b trains stops rows used → (q : Query) (ride_room work_room : ℕ) → query_refusal q (length used) ride_room work_room ≡ search_refusal b trains stops q ride_room work_room
+  refused_alike rows used hand q ride_room work_room = ap (λ (l : List StopRow). query_refusal q (length l) ride_room work_room) hand.counted ∙ same_refusal b trains stops q ride_room work_room hand.held

@@ -1,5 +1,5 @@
 -- A record that holds a label has its numbers, and so tells who changed from it.
-use Rattle.std.proofs.Common.{◌≡◌, ℕ, suc, ◌+◌, ◌*◌, ◌<◌, List, [], ◌∷◌, ◌++◌, length, get_or, Some, None, Option, sym, refl, ap, ◌∙◌, subst, add_assoc, arith}
+use Rattle.std.proofs.Common.{◌≡◌, ℕ, suc, ◌+◌, ◌*◌, ◌<◌, List, [], ◌∷◌, ◌++◌, length, get_or, Some, None, Option, sym, refl, ap, ◌∙◌, subst, add_assoc}
 use Rattle.book.specs.Answers.{train_row}
 use Rattle.book.specs.declared.rows.TrainRow.{TrainRow}
 use Rattle.connection.specs.Underway.{ride}
@@ -17,11 +17,11 @@ module _ {A : Type 0} where
   made_of r o = elim o [ Some t ↦ Some (record { total = t; board = r.board; from = r.from }) | None ↦ None ]
 
   board_of : (r : WorkRecord A) (l : Label A) (o : Option A) → made_of r o ≡ Some l → r.board ≡ l.board
-  board_of r l None e = let z : ◌≡◌ {A = ℕ} 0 1 = cc in absurd (omega arith)
+  board_of r l None e = cc
   board_of r l (Some t) e = ap (λ (x : Option (Label A)). elim x [ Some y ↦ y.board | None ↦ r.board ]) e
 
   from_of : (r : WorkRecord A) (l : Label A) (o : Option A) → made_of r o ≡ Some l → r.from ≡ l.from
-  from_of r l None e = let z : ◌≡◌ {A = ℕ} 0 1 = cc in absurd (omega arith)
+  from_of r l None e = cc
   from_of r l (Some t) e = ap (λ (x : Option (Label A)). elim x [ Some y ↦ y.from | None ↦ r.from ]) e
 
   pub label_board : (r : WorkRecord A) (l : Label A) → label_of r ≡ Some l → r.board ≡ l.board

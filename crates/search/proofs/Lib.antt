@@ -1,8 +1,10 @@
+mod Basis
 mod BeatenLabels
 mod BestChange
 mod BestEnd
 mod Chaining
 mod CheapestEnd
+mod Chosen
 mod FillingLayers
 mod FillingRuns
 mod Guaranteed

@@ -161,17 +161,22 @@ module _ (rows : List TrainRow) (stops : List StopRow) (ok : InOrder rows stops)
   is_at : (n : ℕ) → n < length rows → train_in_row (trains_in rows stops) n ≡ train_at stops (train_row n rows)
   is_at n h = get_or-map (train_at stops) rows n _ _ h
 
-  pub count_is : (n : ℕ) → n < length rows → length (stops_at (trains_in rows stops) n) ≡ (train_row n rows).count
-  count_is n h =
+  -- the stops of the train are so many rows, from its first on
+  pub own_count : (n : ℕ) → n < length rows → length (train_at stops (train_row n rows)).stops ≡ (train_row n rows).count
+  own_count n h =
       let f = fits n h in
-      ap (λ (t : Train). length t.stops) (is_at n h)
-      ∙ length-take-le (train_row n rows).count (drop (train_row n rows).first stops) (simp length-drop (omega arith))
+      length-take-le (train_row n rows).count (drop (train_row n rows).first stops) (simp length-drop (omega arith))
+
+  pub own_stop : (n i : ℕ) → i < (train_row n rows).count → stop_at (train_at stops (train_row n rows)).stops i ≡ stop_at stops (row_of rows n i)
+  own_stop n i l =
+      get_or-take (train_row n rows).count (drop (train_row n rows).first stops) i _ l
+      ∙ get_or-drop (train_row n rows).first stops i _
+
+  pub count_is : (n : ℕ) → n < length rows → length (stops_at (trains_in rows stops) n) ≡ (train_row n rows).count
+  count_is n h = ap (λ (t : Train). length t.stops) (is_at n h) ∙ own_count n h
 
   pub stop_is : (n i : ℕ) → n < length rows → i < (train_row n rows).count → stop_of (trains_in rows stops) n i ≡ stop_at stops (row_of rows n i)
-  stop_is n i h l =
-      ap (λ (t : Train). stop_at t.stops i) (is_at n h)
-      ∙ get_or-take (train_row n rows).count (drop (train_row n rows).first stops) i _ l
-      ∙ get_or-drop (train_row n rows).first stops i _
+  stop_is n i h l = ap (λ (t : Train). stop_at t.stops i) (is_at n h) ∙ own_stop n i l
 
   pub code_is : (n : ℕ) → n < length rows → (train_in_row (trains_in rows stops) n).code ≡ (train_row n rows).code
   code_is n h = ap (λ (t : Train). t.code) (is_at n h)
@@ -190,17 +195,16 @@ module _ (rows : List TrainRow) (stops : List StopRow) (ok : InOrder rows stops)
   pub keep_the_rules : SoundIsTheRules → KeepTheRules (trains_in rows stops)
   keep_the_rules book = all_keep book (trains_in rows stops) ok.sound
 
-  rules_of : SoundIsTheRules → (n : ℕ) → n < length rows → Rules (train_in_row (trains_in rows stops) n).number (stops_at (trains_in rows stops) n)
-  rules_of book n h =
-      All-get_or (λ (t : Train). Rules t.number t.stops) (trains_in rows stops) n _ (omega (arith, many rows stops)) (keep_the_rules book)
+  rules_of : KeepTheRules (trains_in rows stops) → (n : ℕ) → n < length rows → Rules (train_in_row (trains_in rows stops) n).number (stops_at (trains_in rows stops) n)
+  rules_of lawful n h = All-get_or (λ (t : Train). Rules t.number t.stops) (trains_in rows stops) n _ (omega (arith, many rows stops)) lawful
 
-  pub few_stops_of : SoundIsTheRules → (n : ℕ) → n < length rows → (train_row n rows).count ≤ 64
-  few_stops_of book n h = omega (arith, count_is n h, (rules_of book n h).not_many)
+  pub few_stops_of : KeepTheRules (trains_in rows stops) → (n : ℕ) → n < length rows → (train_row n rows).count ≤ 64
+  few_stops_of lawful n h = omega (arith, count_is n h, (rules_of lawful n h).not_many)
 
   pub timely : SoundIsTheRules → Timely stops
   timely book =
       record {
         arrives = of_stops (λ (s : StopRow). arrival s ≤ last_minute) (λ n i h l. (on_time (trains_in rows stops) (keep_the_rules book) n).by i l);
-        departs = of_stops (λ (s : StopRow). departure s ≤ last_minute) (λ n i h l. leaves_by _ _ (rules_of book n h) i l);
-        stations = of_stops (λ (s : StopRow). s.station ≤ last_station) (λ n i h l. (rules_of book n h).stations i l);
+        departs = of_stops (λ (s : StopRow). departure s ≤ last_minute) (λ n i h l. leaves_by _ _ (rules_of (keep_the_rules book) n h) i l);
+        stations = of_stops (λ (s : StopRow). s.station ≤ last_station) (λ n i h l. (rules_of (keep_the_rules book) n h).stations i l);
       }

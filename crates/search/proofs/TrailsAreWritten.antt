@@ -1,5 +1,5 @@
 -- A place is the spot of one stop, so the records tell one trail to it; and its last ride, put after the rides before, ends the trail.
-use Rattle.std.proofs.Common.{◌≡◌, ℕ, zero, suc, ◌+◌, ◌-◌, ◌*◌, ◌<◌, ◌≤◌, List, [], ◌∷◌, ◌++◌, length, get_or, drop, set, sym, ap, ◌∙◌, subst, ap₂, append_assoc, add-one, arith, length-append, drop-cons}
+use Rattle.std.proofs.Common.{◌≡◌, ℕ, zero, suc, ◌+◌, ◌*◌, ◌<◌, ◌≤◌, List, [], ◌∷◌, ◌++◌, length, get_or, drop, set, sym, ap, ◌∙◌, subst, ap₂, append_assoc, add-one, arith, length-append, drop-cons}
 use lib.Seq.{set_at}
 use Rattle.std.proofs.lemmas.List.{get_or_read}
 use Rattle.book.specs.declared.rows.StopRow.{StopRow}
@@ -60,14 +60,14 @@ module _ (rows : List TrainRow) (stops : List StopRow) (ok : InOrder rows stops)
     last_is k f x within told is = get_or_read table (layer_at (length stops) k + f) x (last_inside k f within told) is blank
 
     -- the trail before the last ride
-    from_read : (k f : ℕ) (x : WorkRecord A) (before : List Ride) → x ≡ last k f → 0 < k → Trail rows (length stops) table k (last k f).from before → Trail rows (length stops) table (suc (k - 1)) x.from before
-    from_read k f x before is h trail =
-        let up : k ≡ suc (k - 1) = omega arith in
-        subst (λ (y : WorkRecord A). Trail rows (length stops) table (suc (k - 1)) y.from before) (sym is)
-        (subst (λ (j : ℕ). Trail rows (length stops) table j (last k f).from before) up trail)
+    from_read : (k j f : ℕ) (x : WorkRecord A) (before : List Ride) → x ≡ last k f → j + 1 ≡ k → Trail rows (length stops) table k (last k f).from before → Trail rows (length stops) table (suc j) x.from before
+    from_read k j f x before is h trail =
+        let up : k ≡ suc j = omega arith in
+        subst (λ (y : WorkRecord A). Trail rows (length stops) table (suc j) y.from before) (sym is)
+        (subst (λ (i : ℕ). Trail rows (length stops) table i (last k f).from before) up trail)
 
-    pub trail_before : (k f : ℕ) (x : WorkRecord A) → x ≡ last k f → 0 < k → Told (suc k) f → Told (suc (k - 1)) x.from
-    trail_before k f x is h (whole, (n, s, i, spot, before, trail, e)) = (before, from_read k f x before is h trail)
+    pub trail_before : (k j f : ℕ) (x : WorkRecord A) → x ≡ last k f → j + 1 ≡ k → Told (suc k) f → Told (suc j) x.from
+    trail_before k j f x is h (whole, (n, s, i, spot, before, trail, e)) = (before, from_read k j f x before is h trail)
 
     -- if the rides before are written, the last ride ends the trail
     ended : (k f : ℕ) (rides after : List Ride) (r : Ride) → k < length rides → Spot rows (length stops) r.train r.shift r.alight f → r.board ≡ (last k f).board
@@ -85,11 +85,10 @@ module _ (rows : List TrainRow) (stops : List StopRow) (ok : InOrder rows stops)
         ended zero f rides after r h here (e ∙ ap (λ (y : WorkRecord A). y.board) is) (λ before none. same ∙ ap (λ (l : List Ride). l ++ rides) (sym none))
     first_ends (suc k) f x rides after r is z h here e same = absurd (omega arith)
 
-    pub next_ends : (k f : ℕ) (x : WorkRecord A) (rides written after : List Ride) (r : Ride) → x ≡ last k f → 0 < k → k < length rides → Spot rows (length stops) r.train r.shift r.alight f → r.board ≡ x.board
-        → ((before : List Ride) → Trail rows (length stops) table (suc (k - 1)) x.from before → written ≡ before ++ drop (k - 1 + 1) rides)
+    pub next_ends : (k j f : ℕ) (x : WorkRecord A) (rides written after : List Ride) (r : Ride) → x ≡ last k f → j + 1 ≡ k → k < length rides → Spot rows (length stops) r.train r.shift r.alight f → r.board ≡ x.board
+        → ((before : List Ride) → Trail rows (length stops) table (suc j) x.from before → written ≡ before ++ drop (j + 1) rides)
         → after ≡ written
         → (whole : List Ride) → Trail rows (length stops) table (suc k) f whole → set after k r ≡ whole ++ drop (k + 1) rides
-    next_ends k f x rides written after r is p h here e ends same =
-        let down : k - 1 + 1 ≡ k = omega arith in
+    next_ends k j f x rides written after r is up h here e ends same =
         ended k f rides after r h here (e ∙ ap (λ (y : WorkRecord A). y.board) is)
-        (λ before trail. same ∙ ends before (from_read k f x before is p trail) ∙ ap (λ (j : ℕ). before ++ drop j rides) down)
+        (λ before trail. same ∙ ends before (from_read k j f x before is up trail) ∙ ap (λ (i : ℕ). before ++ drop i rides) up)

@@ -1,6 +1,5 @@
 -- The label of who boards settles the ways to board.
 use Rattle.std.proofs.Common.{◌≡◌, ℕ, zero, suc, ◌+◌, ◌-◌, ◌<◌, Bool, true, false, ◌&&◌, T, eqb, ltb, leb, List, [], ◌∷◌, ◌++◌, length, Some, None, Option, sym, refl, ap, ◌∙◌, subst, ap₂, arith, eqb→eq, lt→ltb}
-use Rattle.tariff.specs.Laws.{Connex, Transitive, Keeps, Starts, Counts}
 use Rattle.tariff.specs.Meaning.{Meaning}
 use Rattle.tariff.specs.declared.step.Kind.TheVariants.{Start, Change}
 use Rattle.book.specs.Answers.{train_row}
@@ -30,10 +29,14 @@ use Rattle.search.specs.Changing.{Changes}
 use Rattle.search.specs.Layers.{Timetable, row_of, Trail, Filled}
 use Rattle.search.specs.Working.{may_use, place, label_in}
 use Rattle.search.specs.declared.record.WorkRecord.{WorkRecord}
+use Rattle.search.proofs.Basis.{Basis}
 use Rattle.search.proofs.LabelsInRecords.{trail_goes_on}
 use Rattle.search.proofs.RowsAreTrains.{many, fits, count_is, stop_is, code_is, features_is, spot_of}
 
-module _ {A : Type 0} (m : Meaning A) (connex : Connex m) (transitive : Transitive m) (keeps : Keeps m) (none : Starts m) (counts : Counts m) (runs : Pairs) (q : Query) (rows : List TrainRow) (stops : List StopRow) (ok : Timetable rows stops) where
+module _ {A : Type 0} (m : Meaning A) (rows : List TrainRow) (stops : List StopRow) (basis : Basis m rows stops) (runs : Pairs) (q : Query) where
+  abbrev ok : Timetable rows stops
+  ok = basis.timetable
+
   abbrev trains : List Train
   trains = trains_in rows stops
 
@@ -72,7 +75,7 @@ module _ {A : Type 0} (m : Meaning A) (connex : Connex m) (transitive : Transiti
         let there = λ (b : Bool) (x : StopRow). only_when (b && (eqb x.station q.origin && leb (ready q) (departure x + midnight s))) (Some (starting x)) in
         subst (SettlesBoarding m trains runs q (Trail rows (length stops) table 0) 0 n s i)
         (ap₂ there (boardable_is ∙ e) same_stop ∙ sym er)
-        (settles_start m connex transitive keeps none counts trains punctual runs q (Trail rows (length stops) table 0) n s i refl)
+        (settles_start m basis.connex basis.transitive basis.keeps basis.starts basis.counts trains punctual runs q (Trail rows (length stops) table 0) n s i refl)
 
   -- ---- after a change
   module _ (k : ℕ) (table : List (WorkRecord A)) (filled : Filled m runs q rows stops table (suc k)) where
@@ -99,7 +102,7 @@ module _ {A : Type 0} (m : Meaning A) (connex : Connex m) (transitive : Transiti
       here = stop_at stops (row_of rows n i)
 
       abbrev Made : Label A → Type 0
-      Made = Changed m connex transitive keeps none counts trains punctual runs q k (Trail rows (length stops) table k) label known spot n s i
+      Made = Changed m basis.connex basis.transitive basis.keeps basis.starts basis.counts trains punctual runs q k (Trail rows (length stops) table k) label known spot n s i
 
       abbrev Possible : Label A → Type 0
       Possible = Changes m stops (label_in (length stops) table k) here.station (departure here + midnight s) i
@@ -162,14 +165,12 @@ module _ {A : Type 0} (m : Meaning A) (connex : Connex m) (transitive : Transiti
       pub boards_after : (r : Option (Label A)) → (may_use runs q (train_row n rows) s && may_board here) ≡ true → Best (no_dearer m) Possible r → SettlesBoarding m trains runs q (Trail rows (length stops) table (suc k)) (suc k) n s i r
       boards_after r e best =
           subst (λ (b : Bool). SettlesBoarding m trains runs q (Trail rows (length stops) table (suc k)) (suc k) n s i (only_when b r)) (boardable_is n s i ln li ∙ e)
-          (settles_change m connex transitive keeps none counts trains punctual runs q k (Trail rows (length stops) table k) label known spot (Trail rows (length stops) table (suc k)) leads n s i r
+          (settles_change m basis.connex basis.transitive basis.keeps basis.starts basis.counts trains punctual runs q k (Trail rows (length stops) table k) label known spot (Trail rows (length stops) table (suc k)) leads n s i r
           (best_same (no_dearer m) Possible Made r to_made from_made best))
 
-  -- the layer by its own number, and the minute by what it equals
-  pub boards_later : (layer : ℕ) (table : List (WorkRecord A)) (n : ℕ) (s : Shift) (i until : ℕ) (r : Option (Label A)) → (layer ≡ 0 → ⊥) → Filled m runs q rows stops table layer → n < length rows → i < (train_row n rows).count → (may_use runs q (train_row n rows) s && may_board (stop_at stops (row_of rows n i))) ≡ true → until ≡ departure (stop_at stops (row_of rows n i)) + midnight s → Best (no_dearer m) (Changes m stops (label_in (length stops) table (layer - 1)) (stop_at stops (row_of rows n i)).station until i) r → SettlesBoarding m trains runs q (Trail rows (length stops) table layer) layer n s i r
-  boards_later zero table n s i until r later filled ln li e w best = absurd (later refl)
-  boards_later (suc k) table n s i until r later filled ln li e w best =
-      let d : suc k - 1 ≡ k = omega arith in
-      boards_after k table filled n s i ln li r e
-      (subst (λ (u : ℕ). Best (no_dearer m) (Changes m stops (label_in (length stops) table k) (stop_at stops (row_of rows n i)).station u i) r) w
-      (subst (λ (j : ℕ). Best (no_dearer m) (Changes m stops (label_in (length stops) table j) (stop_at stops (row_of rows n i)).station until i) r) d best))
+  -- the layer by the one before it, and the minute by what it equals
+  pub boards_later : (layer before : ℕ) (table : List (WorkRecord A)) (n : ℕ) (s : Shift) (i until : ℕ) (r : Option (Label A)) → before + 1 ≡ layer → Filled m runs q rows stops table layer → n < length rows → i < (train_row n rows).count → (may_use runs q (train_row n rows) s && may_board (stop_at stops (row_of rows n i))) ≡ true → until ≡ departure (stop_at stops (row_of rows n i)) + midnight s → Best (no_dearer m) (Changes m stops (label_in (length stops) table before) (stop_at stops (row_of rows n i)).station until i) r → SettlesBoarding m trains runs q (Trail rows (length stops) table layer) layer n s i r
+  boards_later layer before table n s i until r next filled ln li e w best =
+      let k : suc before ≡ layer = omega arith in
+      subst (λ (j : ℕ). Filled m runs q rows stops table j → SettlesBoarding m trains runs q (Trail rows (length stops) table j) j n s i r) k
+      (λ f. boards_after before table f n s i ln li r e (subst (λ (u : ℕ). Best (no_dearer m) (Changes m stops (label_in (length stops) table before) (stop_at stops (row_of rows n i)).station u i) r) w best)) filled

@@ -1,38 +1,43 @@
 -- The rows with a label, chained by station.
-use Rattle.std.specs.Prelude.{◌≡◌, ℕ, suc, ◌<◌, ◌≤◌, true, List, length, replicate, is_some, None, Option, slice_index}
+use Rattle.std.specs.Prelude.{◌≡◌, ℕ, suc, ◌<◌, ◌≤◌, true, List, length, replicate, is_some, None, Option, IfSome, slice_index_or}
 use Rattle.book.specs.Limits.{last_station}
 use Rattle.book.specs.Rules.{stop_at}
 use Rattle.book.specs.declared.rows.StopRow.{StopRow}
 use Rattle.connection.specs.declared.label.Label.{Label}
 use Rattle.connection.specs.declared.ride.Shift.{Shift}
-use Rattle.connection.specs.declared.ride.Shift.TheVariants.{DayBefore, SameDay, DayAfter}
-use Rattle.search.specs.declared.chains.Arrivals.{Arrivals}
+use Rattle.std.specs.Option.{unwrap_or}
+use Rattle.search.specs.Shifts.{on}
+use Rattle.search.specs.declared.by_shift.ByShift.{ByShift}
 use Rattle.search.specs.declared.chains.Chain.{Chain}
 
-module _ {A : Type 0} (stops : List StopRow) (label : ℕ → Option (Label A)) where
-  -- b is the first row from a on that has the station and a label, or lies past the last row
-  pub record Link (station a b : ℕ) : Type 0 where
-    pub onward : a ≤ b
-    pub passed_over : (j : ℕ) → a ≤ j → j < b → j < length stops → (stop_at stops j).station ≡ station → label j ≡ None
-    pub stands : b < length stops → (stop_at stops b).station ≡ station
-    pub labelled : b < length stops → is_some (label b) ≡ true
+-- a row, or the end of the rows where there is none
+abbrev pub or_end : List StopRow → Option ℕ → ℕ
+or_end stops row = unwrap_or row (length stops)
 
-  pub record Chained (heads nexts : List ℕ) : Type 0 where
-    pub first : (station : ℕ) → station ≤ last_station → Link station 0 (slice_index heads station)
-    pub next : (j : ℕ) → j < length stops → is_some (label j) ≡ true → Link (stop_at stops j).station (suc j) (slice_index nexts j)
+module _ {A : Type 0} (stops : List StopRow) (label : ℕ → Option (Label A)) where
+  -- the row is one of the station's, and has a label
+  pub record ArrivesAt (station row : ℕ) : Type 0 where
+    pub inside : row < length stops
+    pub here : (stop_at stops row).station ≡ station
+    pub labelled : is_some (label row) ≡ true
+
+  -- b is the first row from a on that has the station and a label, or none is there
+  pub record Link (station a : ℕ) (b : Option ℕ) : Type 0 where
+    pub onward : a ≤ or_end stops b
+    pub passed_over : (j : ℕ) → a ≤ j → j < or_end stops b → (stop_at stops j).station ≡ station → label j ≡ None
+    pub arrives : IfSome b (ArrivesAt station)
+
+  pub record Chained (heads nexts : List (Option ℕ)) : Type 0 where
+    pub first : (station : ℕ) → station ≤ last_station → Link station 0 (slice_index_or heads station None)
+    pub next : (j : ℕ) → j < length stops → is_some (label j) ≡ true → Link (stop_at stops j).station (suc j) (slice_index_or nexts j None)
 
 -- ---- the chains of a whole layer
-abbrev pub chain_of : Arrivals → Shift → Chain
-chain_of a DayBefore = a.day_before
-chain_of a SameDay = a.same_day
-chain_of a DayAfter = a.day_after
-
-abbrev pub Linked : {A : Type 0} → List StopRow → (Shift → ℕ → Option (Label A)) → Arrivals → Type 0
-Linked stops label a = (s : Shift) → Chained stops (label s) (chain_of a s).heads (chain_of a s).nexts
+abbrev pub Linked : {A : Type 0} → List StopRow → (Shift → ℕ → Option (Label A)) → ByShift Chain → Type 0
+Linked stops label arrivals = (s : Shift) → Chained stops (label s) (on arrivals s).heads (on arrivals s).nexts
 
 -- ---- chains that end at once, whatever the stops
 abbrev pub no_chain : Chain
-no_chain = record { heads = replicate 1024 65535; nexts = replicate 4096 65535 }
+no_chain = record { heads = replicate 1024 None; nexts = replicate 4096 None }
 
-abbrev pub no_arrivals : Arrivals
+abbrev pub no_arrivals : ByShift Chain
 no_arrivals = record { day_before = no_chain; same_day = no_chain; day_after = no_chain }

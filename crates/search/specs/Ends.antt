@@ -8,14 +8,14 @@ use Rattle.connection.specs.Rides.{may_alight}
 use Rattle.connection.specs.Ways.{Among}
 use Rattle.connection.specs.declared.label.Label.{Label}
 use Rattle.connection.specs.declared.ride.Shift.{Shift}
-use Rattle.search.specs.Working.{place, label_in}
+use Rattle.search.specs.Working.{costs_at_most, place, label_in}
 use Rattle.search.specs.declared.ends.End.{End}
 use Rattle.search.specs.declared.record.WorkRecord.{WorkRecord}
 
 module _ {A : Type 0} where
   -- the first costs no more than the second
   abbrev pub ends_no_dearer : Meaning A → End A → End A → Bool
-  ends_no_dearer m a b = m.at_most a.total b.total
+  ends_no_dearer m = costs_at_most m (λ (e : End A). e.total)
 
   -- the end that names a label by its layer and its place there
   abbrev pub end_of : ℕ → ℕ → Label A → End A

@@ -13,11 +13,11 @@ use Rattle.connection.specs.declared.label.Label.{Label}
 use Rattle.connection.specs.declared.query.Query.{Query}
 use Rattle.connection.specs.declared.ride.Ride.{Ride}
 use Rattle.connection.specs.declared.ride.Shift.{Shift}
-use Rattle.connection.specs.declared.ride.Shift.TheVariants.{DayBefore, SameDay, DayAfter}
 use Rattle.search.specs.Changing.{Timely}
 use Rattle.search.specs.Records.{blank}
 use Rattle.search.specs.Working.{may_use, place, layer_at, label_in}
-use Rattle.search.specs.declared.layers.Usable.{Usable}
+use Rattle.search.specs.Shifts.{on}
+use Rattle.search.specs.declared.by_shift.ByShift.{ByShift}
 use Rattle.search.specs.declared.record.WorkRecord.{WorkRecord}
 
 -- ---- the rows in use
@@ -103,13 +103,8 @@ RunAsked q row s usable runs = usable ≡ may_use runs q row s
 abbrev pub ShiftAsked : Query → List TrainRow → Shift → List Bool → Pairs → Type 0
 ShiftAsked q rows s usable runs = (n : ℕ) → n < length rows → RunAsked q (train_row n rows) s (slice_index_or usable n false) runs
 
-abbrev pub usable_on : Usable → Shift → List Bool
-usable_on u DayBefore = u.day_before
-usable_on u SameDay = u.same_day
-usable_on u DayAfter = u.day_after
-
-abbrev pub Asked : Query → List TrainRow → Usable → Pairs → Type 0
-Asked q rows u runs = (s : Shift) → ShiftAsked q rows s (usable_on u s) runs
+abbrev pub Asked : Query → List TrainRow → ByShift (List Bool) → Pairs → Type 0
+Asked q rows usable runs = (s : Shift) → ShiftAsked q rows s (on usable s) runs
 
 -- the first layers are all that there is: one for each ride that the query allows, or the last of them has no label
 abbrev pub AllLayers : {A : Type 0} → List TrainRow → ℕ → List (WorkRecord A) → Query → ℕ → Type 0

@@ -5,4 +5,5 @@ pub mod Ends
 pub mod Layers
 pub mod Records
 pub mod Refusals
+pub mod Shifts
 pub mod Working

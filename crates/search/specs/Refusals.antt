@@ -1,5 +1,5 @@
 -- Why a search is refused ahead of looking for a connection: the earliest listed reason, and its number.
-use Rattle.std.specs.Prelude.{ℕ, ◌+◌, ◌*◌, Bool, true, false, ◌||◌, List, Some, None, Option, ◌==◌, nat_lt}
+use Rattle.std.specs.Prelude.{ℕ, ◌+◌, ◌*◌, Bool, true, false, ◌||◌, List, Some, None, Option, ◌==◌, nat_lt, codes}
 use Rattle.book.specs.Limits.{last_station}
 use Rattle.book.specs.Refusals.{number as book_number}
 use Rattle.book.specs.Trains.{Train, all_stops, meaning}
@@ -19,6 +19,15 @@ number SameStation = 14
 number ShortRides = 15
 number ShortWork = 16
 number NoConnection = 17
+
+-- the words for it
+abbrev pub words_of : Refusal → List ℕ
+words_of (Book r) = codes "the tables do not hold what the book says"
+words_of BadQuery = codes "a station, the day, the minute or the change limit is out of bounds"
+words_of SameStation = codes "origin and destination are equal"
+words_of ShortRides = codes "the ride list is too short"
+words_of ShortWork = codes "the work table is too short"
+words_of NoConnection = codes "no connection"
 
 -- a reason to refuse, where the test says so; and of several the earliest
 abbrev pub when : Bool → Refusal → Option Refusal

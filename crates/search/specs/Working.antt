@@ -23,6 +23,10 @@ use Rattle.search.specs.declared.record.WorkRecord.{WorkRecord}
 abbrev pub stepped : {A : Type 0} → Meaning A → Step → Label A → Label A
 stepped m x l = record { total = m.add l.total x; board = l.board; from = l.from }
 
+-- the first costs no more than the second, of two that have a total
+abbrev pub costs_at_most : {A L : Type 0} → Meaning A → (L → A) → L → L → Bool
+costs_at_most m total a b = m.at_most (total a) (total b)
+
 -- ---- what may be used
 -- the days around the query's can be asked for, and its minute is one of its day
 pub record Askable (q : Query) : Type 0 where

@@ -1,50 +1,58 @@
 // Which runs a query may use. The calendar is asked here, once for each train and shift.
-ghost use Rattle.std.specs.Prelude.{◌≡◌, ℕ, ◌<◌, ◌≤◌, false, length, slice_index_or};
+ghost use Rattle.std.specs.Prelude.{◌≡◌, ℕ, ◌<◌, false, length, slice_index_or};
 ghost use Rattle.book.specs.Answers.{train_row};
 ghost use Rattle.connection.specs.Clock.{sets_out};
 ghost use Rattle.connection.specs.Rides.{does_run};
-ghost use Rattle.search.specs.Working.{may_use, Askable};
+ghost use Rattle.search.specs.Layers.{Asked, ShiftAsked};
+ghost use Rattle.search.specs.Working.{may_use};
 
-use book::rows::TrainRow;
+use crate::by_shift::ByShift;
+use crate::inquiry::Inquiry;
 use calendar::Calendar;
-use connection::query::Query;
 use connection::ride::Shift;
 
-// The day on which a run of that shift sets out.
-fn sets_out(query: &Query, shift: Shift) -> u16
-    requires askable { Askable query.now }
-    ensures { result ≡ sets_out query.now shift }
-{
-    match shift {
-        Shift::DayBefore => query.day - 1,
-        Shift::SameDay => query.day,
-        Shift::DayAfter => query.day + 1,
-    }
-}
+// For each train and shift whether the query may use the run.
+pub type Usable = ByShift<[bool; 512]>;
 
-// Whether a train with that code runs on the day.
-fn does_run<C: Calendar>(calendar: &C, query: &Query, code: u8, shift: Shift) -> bool
-    requires askable { Askable query.now }
-    ensures { result ≡ does_run (C.Calendar.runs calendar.now) query.now code shift }
-{
-    calendar.runs_on(code, sets_out(query, shift))
-}
-
-// For each train whether the query may use its run of that shift.
-pub fn usable_runs<C: Calendar>(
-    calendar: &C,
-    query: &Query,
-    trains: &[TrainRow],
-    shift: Shift,
-) -> [bool; 512]
-    requires askable { Askable query.now }
-    requires few { length trains.now ≤ 512 }
-    ensures each { (n : ℕ) → n < length trains.now → slice_index_or result n false ≡ may_use (C.Calendar.runs calendar.now) query.now (train_row n trains.now) shift }
-{
-    let mut usable = [false; 512];
-    for n in 0..trains.len() {
-        usable[n] = query.offered_by(trains[n].features)
-            && does_run(calendar, query, trains[n].code, shift);
+impl<P> Inquiry<'_, P> {
+    // Asks the calendar, once for each train and shift.
+    pub fn usable<C: Calendar>(&self, calendar: &C) -> Usable
+        ensures { Asked self.now.query.now self.now.trains.now result (C.Calendar.runs calendar.now) }
+    {
+        ByShift::each(
+            |shift| -> [bool; 512]
+                ensures { ShiftAsked self.entry.now.query.now self.entry.now.trains.now shift result (C.Calendar.runs calendar.entry.now) }
+            { self.usable_on(calendar, shift) },
+        )
     }
-    usable
+
+    // For each train whether the query may use its run of that shift.
+    fn usable_on<C: Calendar>(&self, calendar: &C, shift: Shift) -> [bool; 512]
+        ensures each { (n : ℕ) → n < length self.now.trains.now → slice_index_or result n false ≡ may_use (C.Calendar.runs calendar.now) self.now.query.now (train_row n self.now.trains.now) shift }
+    {
+        let mut usable = [false; 512];
+        for (n, train) in self.trains.iter().enumerate() {
+            usable[n] = self.query.offered_by(train.features)
+                && self.does_run(calendar, train.code, shift);
+        }
+        usable
+    }
+
+    // Whether a train with that code runs on the day.
+    fn does_run<C: Calendar>(&self, calendar: &C, code: u8, shift: Shift) -> bool
+        ensures { result ≡ does_run (C.Calendar.runs calendar.now) self.now.query.now code shift }
+    {
+        calendar.runs_on(code, self.sets_out(shift))
+    }
+
+    // The day on which a run of that shift sets out.
+    fn sets_out(&self, shift: Shift) -> u16
+        ensures { result ≡ sets_out self.now.query.now shift }
+    {
+        match shift {
+            Shift::DayBefore => self.query.day - 1,
+            Shift::SameDay => self.query.day,
+            Shift::DayAfter => self.query.day + 1,
+        }
+    }
 }

@@ -2,7 +2,8 @@
 ghost use Rattle.std.specs.Prelude.{◌≡◌, ◌+◌, ◌-◌, ◌*◌, ◌<◌, ◌≤◌, ◌&&◌, length, Some, ◌==◌, nat_le};
 ghost use Rattle.tariff.specs.declared.step.Kind.TheVariants.{Start as AtStart};
 ghost use Rattle.book.specs.Answers.{train_row};
-ghost use Rattle.book.specs.Limits.{last_minute, last_station};
+ghost use Rattle.book.specs.Limits.{last_station};
+ghost use Rattle.book.specs.Rules.{stop_at};
 ghost use Rattle.book.specs.Trains.{trains_in};
 ghost use Rattle.calendar.specs.Pairs.{Pairs};
 ghost use Rattle.connection.specs.Choosing.{mapped, only_when};
@@ -12,207 +13,145 @@ ghost use Rattle.connection.specs.Prices.{stretch};
 ghost use Rattle.connection.specs.Rides.{arrival, departure, may_alight, can_catch};
 ghost use Rattle.connection.specs.Settled.{no_dearer, SettlesBoarding};
 ghost use Rattle.connection.specs.Ways.{Best};
-ghost use Rattle.search.specs.Changing.{changed, ChangesOn, Changes, Timely};
-ghost use Rattle.search.specs.Chains.{Chained, Linked};
-ghost use Rattle.search.specs.Layers.{Timetable, Trail, Filled};
-ghost use Rattle.search.specs.Working.{Askable, may_use, layer_at, part_at, label_in};
+ghost use Rattle.search.specs.Changing.{changed, ChangesOn, Changes};
+ghost use Rattle.search.specs.Chains.{Linked};
+ghost use Rattle.search.specs.Layers.{Trail, Filled};
+ghost use Rattle.search.specs.Working.{may_use, layer_at, place as place_of, label_in};
 
-use crate::chains::{Arrivals, Chain};
-use crate::choosing::cheaper;
-use crate::minutes::{leaves, reaches, ready, wait};
+use crate::chains::Arrivals;
+use crate::choosing::{cheaper, cheapest_of_shifts};
+use crate::inquiry::Inquiry;
+use crate::layer::Layer;
+use crate::minutes::wait;
 use crate::record::WorkRecord;
-use crate::table::{label_at, number, part_at};
-use book::rows::{StopRow, TrainRow};
+use crate::run::{Onward, Run};
+use crate::table::label_at;
 use connection::allowed::{can_catch, may_alight, may_board};
 use connection::label::Label;
-use connection::query::Query;
 use connection::ride::Shift;
 use tariff::Tariff;
 use tariff::step::Kind;
 
-// The label of who starts with this run at the stop, if it is at the origin and does not leave before the query's minute.
-pub fn start<P: Tariff>(
-    tariff: &P,
-    query: &Query,
-    stop: &StopRow,
-    shift: Shift,
-    board: u8,
-) -> Option<Label<P::Total>>
-    requires askable { Askable query.now }
-    requires timely { departure stop.now ≤ last_minute }
-    ensures { result ≡ only_when (stop.now.station == query.now.origin && nat_le (ready_at query.now) (departure stop.now + midnight shift)) (Some (record { total = with (P.Tariff.meaning tariff.now) (P.Tariff.meaning tariff.now).empty (stretch AtStart (departure stop.now + midnight shift - ready_at query.now) 0); board = board; from = 0 })) }
-{
-    let since = ready(query);
-    let until = leaves(stop, shift);
-    if stop.station != query.origin || since > until {
-        return None;
+impl<P: Tariff> Inquiry<'_, P> {
+    // The label of who boards the run at its stop `i`, after as many changes as the layer has.
+    pub fn boarding(
+        &self,
+        work: &[WorkRecord<P::Total>],
+        layer: Layer,
+        arrivals: &Arrivals,
+        usable: bool,
+        run: Run,
+        i: usize,
+    ) -> Option<Label<P::Total>>
+        requires within { layer_at (length self.now.stops.now) layer.number ≤ length work.now }
+        requires linked { 0 < layer.number → Linked self.now.stops.now (label_in (length self.now.stops.now) work.now (layer.number - 1)) arrivals.now }
+        requires in_force { run.train < length self.now.trains.now }
+        requires on_the_train { i < (train_row run.train self.now.trains.now).count }
+        ensures settles { (runs : Pairs) → usable ≡ may_use runs self.now.query.now (train_row run.train self.now.trains.now) run.shift → Filled (P.Tariff.meaning self.now.tariff.now) runs self.now.query.now self.now.trains.now self.now.stops.now work.now layer.number → SettlesBoarding (P.Tariff.meaning self.now.tariff.now) (trains_in self.now.trains.now self.now.stops.now) runs self.now.query.now (Trail self.now.trains.now (length self.now.stops.now) work.now layer.number) layer.number run.train run.shift i result }
+    {
+        let row = self.trains[run.train].first as usize + i;
+        let stop = &self.stops[row];
+        if !usable || !may_board(stop) {
+            return None;
+        }
+        let board = i as u8;
+        let Some(before) = layer.before() else {
+            return self.start(row, run.shift, board);
+        };
+        let onward = Onward {
+            station: stop.station,
+            minute: self.leaves(row, run.shift),
+            board,
+        };
+        self.best_change(work, before, arrivals, onward)
     }
-    Some(Label {
-        total: tariff.add(tariff.empty(), wait(Kind::Start, since, until)),
-        board,
-        from: 0,
-    })
-}
 
-// The label of who alights at the stop from the run of that shift and takes what leaves at the minute, if that can be caught.
-fn change<P: Tariff>(
-    tariff: &P,
-    stop: &StopRow,
-    shift: Shift,
-    label: Option<Label<P::Total>>,
-    until: u16,
-    board: u8,
-    from: u16,
-) -> Option<Label<P::Total>>
-    requires timely { arrival stop.now ≤ last_minute }
-    ensures { result ≡ only_when (may_alight stop.now && can_catch (arrival stop.now + midnight shift) until) (mapped (changed (P.Tariff.meaning tariff.now) stop.now shift until board from) label) }
-{
-    let since = reaches(stop, shift);
-    if !may_alight(stop) || !can_catch(since, until) {
-        return None;
+    // The label of who starts with the run of that shift at the row, if that is at the origin and the run does not leave
+    // before the query's minute.
+    fn start(&self, row: usize, shift: Shift, board: u8) -> Option<Label<P::Total>>
+        requires inside { row < length self.now.stops.now }
+        ensures { result ≡ only_when ((stop_at self.now.stops.now row).station == self.now.query.now.origin && nat_le (ready_at self.now.query.now) (departure (stop_at self.now.stops.now row) + midnight shift)) (Some (record { total = with (P.Tariff.meaning self.now.tariff.now) (P.Tariff.meaning self.now.tariff.now).empty (stretch AtStart (departure (stop_at self.now.stops.now row) + midnight shift - ready_at self.now.query.now) 0); board = board; from = 0 })) }
+    {
+        let since = self.ready();
+        let until = self.leaves(row, shift);
+        if self.stops[row].station != self.query.origin || since > until {
+            return None;
+        }
+        Some(Label {
+            total: self
+                .tariff
+                .add(self.tariff.empty(), wait(Kind::Start, since, until)),
+            board,
+            from: 0,
+        })
     }
-    let Some(before) = label else {
-        return None;
-    };
-    Some(Label {
-        total: tariff.add(before.total, wait(Kind::Change, since, until)),
-        board,
-        from,
-    })
-}
 
-// The best change at the station from runs of one shift to what leaves at the minute, by the labels of that layer.
-fn best_change_on<P: Tariff>(
-    tariff: &P,
-    stops: &[StopRow],
-    work: &[WorkRecord<P::Total>],
-    layer: usize,
-    shift: Shift,
-    chain: &Chain,
-    station: u16,
-    until: u16,
-    board: u8,
-) -> Option<Label<P::Total>>
-    requires few { length stops.now ≤ 4096 }
-    requires shallow { layer ≤ 15 }
-    requires within { part_at (length stops.now) layer shift + length stops.now ≤ length work.now }
-    requires timely { Timely stops.now }
-    requires known { station ≤ last_station }
-    requires chained { Chained stops.now (label_in (length stops.now) work.now layer shift) chain.now.heads chain.now.nexts }
-    ensures best { Best (no_dearer (P.Tariff.meaning tariff.now)) (ChangesOn (P.Tariff.meaning tariff.now) stops.now (label_in (length stops.now) work.now layer) station until board shift) result }
-{
-    let at = part_at(stops.len(), layer, shift);
-    let offset = number(shift) * stops.len();
-    let mut best = None;
-    let mut row = chain.heads[station as usize] as usize;
-    while row < stops.len() {
-        let label = label_at(work, at + row);
-        let from = (offset + row) as u16;
-        best = cheaper(
-            tariff,
-            best,
-            change(tariff, &stops[row], shift, label, until, board, from),
-        );
-        row = chain.nexts[row] as usize;
+    // The best change to what the traveller wants to catch, by the labels of that layer.
+    fn best_change(
+        &self,
+        work: &[WorkRecord<P::Total>],
+        layer: Layer,
+        arrivals: &Arrivals,
+        onward: Onward,
+    ) -> Option<Label<P::Total>>
+        requires within { layer_at (length self.now.stops.now) layer.number + 3 * length self.now.stops.now ≤ length work.now }
+        requires known { onward.station ≤ last_station }
+        requires linked { Linked self.now.stops.now (label_in (length self.now.stops.now) work.now layer.number) arrivals.now }
+        ensures best { Best (no_dearer (P.Tariff.meaning self.now.tariff.now)) (Changes (P.Tariff.meaning self.now.tariff.now) self.now.stops.now (label_in (length self.now.stops.now) work.now layer.number) onward.station onward.minute onward.board) result }
+    {
+        cheapest_of_shifts(self.tariff, |shift| {
+            self.best_change_on(work, layer, arrivals, shift, onward)
+        })
     }
-    best
-}
 
-// The best change at the station from any run to what leaves at the minute, by the labels of that layer.
-fn best_change<P: Tariff>(
-    tariff: &P,
-    stops: &[StopRow],
-    work: &[WorkRecord<P::Total>],
-    layer: usize,
-    arrivals: &Arrivals,
-    station: u16,
-    until: u16,
-    board: u8,
-) -> Option<Label<P::Total>>
-    requires few { length stops.now ≤ 4096 }
-    requires shallow { layer ≤ 15 }
-    requires within { layer_at (length stops.now) layer + 3 * length stops.now ≤ length work.now }
-    requires timely { Timely stops.now }
-    requires known { station ≤ last_station }
-    requires linked { Linked stops.now (label_in (length stops.now) work.now layer) arrivals.now }
-    ensures best { Best (no_dearer (P.Tariff.meaning tariff.now)) (Changes (P.Tariff.meaning tariff.now) stops.now (label_in (length stops.now) work.now layer) station until board) result }
-{
-    let before = best_change_on(
-        tariff,
-        stops,
-        work,
-        layer,
-        Shift::DayBefore,
-        &arrivals.day_before,
-        station,
-        until,
-        board,
-    );
-    let same = best_change_on(
-        tariff,
-        stops,
-        work,
-        layer,
-        Shift::SameDay,
-        &arrivals.same_day,
-        station,
-        until,
-        board,
-    );
-    let after = best_change_on(
-        tariff,
-        stops,
-        work,
-        layer,
-        Shift::DayAfter,
-        &arrivals.day_after,
-        station,
-        until,
-        board,
-    );
-    cheaper(tariff, before, cheaper(tariff, same, after))
-}
+    // The best of these changes from runs of one shift.
+    fn best_change_on(
+        &self,
+        work: &[WorkRecord<P::Total>],
+        layer: Layer,
+        arrivals: &Arrivals,
+        shift: Shift,
+        onward: Onward,
+    ) -> Option<Label<P::Total>>
+        requires within { layer_at (length self.now.stops.now) layer.number + 3 * length self.now.stops.now ≤ length work.now }
+        requires known { onward.station ≤ last_station }
+        requires linked { Linked self.now.stops.now (label_in (length self.now.stops.now) work.now layer.number) arrivals.now }
+        ensures best { Best (no_dearer (P.Tariff.meaning self.now.tariff.now)) (ChangesOn (P.Tariff.meaning self.now.tariff.now) self.now.stops.now (label_in (length self.now.stops.now) work.now layer.number) onward.station onward.minute onward.board shift) result }
+    {
+        let at = self.part_at(layer, shift);
+        let chain = arrivals.on(shift);
+        let mut best = None;
+        let mut next = chain.heads[onward.station as usize];
+        while let Some(row) = next {
+            let row = row as usize;
+            let label = label_at(work, at + row);
+            best = cheaper(self.tariff, best, self.change(row, shift, label, onward));
+            next = chain.nexts[row];
+        }
+        best
+    }
 
-// The label of who boards the run of that shift of the train `n` at its stop `i`, after `layer` changes.
-pub fn boarding<P: Tariff>(
-    tariff: &P,
-    query: &Query,
-    trains: &[TrainRow],
-    stops: &[StopRow],
-    work: &[WorkRecord<P::Total>],
-    layer: usize,
-    arrivals: &Arrivals,
-    usable: bool,
-    n: usize,
-    shift: Shift,
-    i: usize,
-) -> Option<Label<P::Total>>
-    requires askable { Askable query.now }
-    requires timetable { Timetable trains.now stops.now }
-    requires shallow { layer ≤ 15 }
-    requires within { layer_at (length stops.now) layer ≤ length work.now }
-    requires linked { 0 < layer → Linked stops.now (label_in (length stops.now) work.now (layer - 1)) arrivals.now }
-    requires in_force { n < length trains.now }
-    requires on_the_train { i < (train_row n trains.now).count }
-    requires short { i ≤ 255 }
-    ensures settles { (runs : Pairs) → usable ≡ may_use runs query.now (train_row n trains.now) shift → Filled (P.Tariff.meaning tariff.now) runs query.now trains.now stops.now work.now layer → SettlesBoarding (P.Tariff.meaning tariff.now) (trains_in trains.now stops.now) runs query.now (Trail trains.now (length stops.now) work.now layer) layer n shift i result }
-{
-    let stop = &stops[trains[n].first as usize + i];
-    if !usable || !may_board(stop) {
-        return None;
+    // The label of who alights at the row from the run of that shift, and changes to what he wants to catch, if he can.
+    fn change(
+        &self,
+        row: usize,
+        shift: Shift,
+        label: Option<Label<P::Total>>,
+        onward: Onward,
+    ) -> Option<Label<P::Total>>
+        requires inside { row < length self.now.stops.now }
+        ensures { result ≡ only_when (may_alight (stop_at self.now.stops.now row) && can_catch (arrival (stop_at self.now.stops.now row) + midnight shift) onward.minute) (mapped (changed (P.Tariff.meaning self.now.tariff.now) (stop_at self.now.stops.now row) shift onward.minute onward.board (place_of (length self.now.stops.now) shift row)) label) }
+    {
+        let since = self.reaches(row, shift);
+        if !may_alight(&self.stops[row]) || !can_catch(since, onward.minute) {
+            return None;
+        }
+        let step = wait(Kind::Change, since, onward.minute);
+        let from = self.place(shift, row) as u16;
+        label.map(|before| Label {
+            total: self.tariff.add(before.total, step),
+            board: onward.board,
+            from,
+        })
     }
-    let board = i as u8;
-    if layer == 0 {
-        return start(tariff, query, stop, shift, board);
-    }
-    best_change(
-        tariff,
-        stops,
-        work,
-        layer - 1,
-        arrivals,
-        stop.station,
-        leaves(stop, shift),
-        board,
-    )
 }

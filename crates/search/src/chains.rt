@@ -2,91 +2,74 @@
 //
 //     heads: station 2 -> row 1, station 3 -> row 2, ..       the first row of the station with a label
 //     nexts: row 2 -> row 4, ..                               the next row of the same station with one
-ghost use Rattle.std.specs.Prelude.{◌≡◌, ℕ, ◌+◌, ◌*◌, ◌<◌, ◌≤◌, length};
-ghost use Rattle.book.specs.Limits.{last_station};
-ghost use Rattle.book.specs.Rules.{stop_at};
+ghost use Rattle.std.specs.Prelude.{◌≡◌, ◌+◌, ◌*◌, ◌≤◌, length};
 ghost use Rattle.search.specs.Chains.{Chained, Linked, no_chain, no_arrivals};
-ghost use Rattle.search.specs.Changing.{Timely};
-ghost use Rattle.search.specs.Working.{layer_at, label_at, label_in};
+ghost use Rattle.search.specs.Working.{layer_at, label_in};
 
+use crate::by_shift::ByShift;
+use crate::inquiry::Inquiry;
+use crate::layer::Layer;
 use crate::record::WorkRecord;
-use crate::table::{label_at, part_at};
-use book::rows::StopRow;
+use crate::table::label_at;
 use connection::ride::Shift;
+use tariff::Tariff;
 
-// One part of a layer. A row past the last ends a chain.
+// One part of a layer.
 #[derive(Drop)]
 pub struct Chain {
-    pub heads: [u16; 1024],
-    pub nexts: [u16; 4096],
+    pub heads: [Option<u16>; 1024],
+    pub nexts: [Option<u16>; 4096],
 }
 
 // All parts of a layer.
-#[derive(Drop)]
-pub struct Arrivals {
-    pub day_before: Chain,
-    pub same_day: Chain,
-    pub day_after: Chain,
-}
-
-impl Arrivals {
-    // Ahead of the first layer nobody has arrived anywhere.
-    pub fn none() -> Arrivals
-        ensures { result ≡ no_arrivals }
-    {
-        Arrivals {
-            day_before: Chain::empty(),
-            same_day: Chain::empty(),
-            day_after: Chain::empty(),
-        }
-    }
-
-    // The labels of that layer.
-    pub fn of<T: Copy>(stops: &[StopRow], work: &[WorkRecord<T>], layer: usize) -> Arrivals
-        requires few { length stops.now ≤ 4096 }
-        requires shallow { layer ≤ 15 }
-        requires within { layer_at (length stops.now) layer + 3 * length stops.now ≤ length work.now }
-        requires timely { Timely stops.now }
-        ensures { Linked stops.now (label_in (length stops.now) work.now layer) result }
-    {
-        let size = stops.len();
-        Arrivals {
-            day_before: chained(stops, work, part_at(size, layer, Shift::DayBefore)),
-            same_day: chained(stops, work, part_at(size, layer, Shift::SameDay)),
-            day_after: chained(stops, work, part_at(size, layer, Shift::DayAfter)),
-        }
-    }
-}
+pub type Arrivals = ByShift<Chain>;
 
 impl Chain {
-    // Every chain ends at once.
+    // Nobody has arrived anywhere.
     fn empty() -> Chain
         ensures { result ≡ no_chain }
     {
         Chain {
-            heads: [u16::MAX; 1024],
-            nexts: [u16::MAX; 4096],
+            heads: [None; 1024],
+            nexts: [None; 4096],
         }
     }
 }
 
-// The chains of the part whose records begin at `at`.
-fn chained<T: Copy>(stops: &[StopRow], work: &[WorkRecord<T>], at: usize) -> Chain
-    requires few { length stops.now ≤ 4096 }
-    requires within { at + length stops.now ≤ length work.now }
-    requires stations { (j : ℕ) → j < length stops.now → (stop_at stops.now j).station ≤ last_station }
-    ensures { Chained stops.now (λ j. label_at work.now (at + j)) result.heads result.nexts }
+// Ahead of the first layer nobody has arrived anywhere.
+pub fn no_arrivals() -> Arrivals
+    ensures { result ≡ no_arrivals }
 {
-    let mut heads = [stops.len() as u16; 1024];
-    let mut nexts = [0; 4096];
-    let mut row = stops.len();
-    while row > 0 {
-        row -= 1;
-        if label_at(work, at + row).is_some() {
-            let station = stops[row].station as usize;
-            nexts[row] = heads[station];
-            heads[station] = row as u16;
-        }
+    ByShift {
+        day_before: Chain::empty(),
+        same_day: Chain::empty(),
+        day_after: Chain::empty(),
     }
-    Chain { heads, nexts }
+}
+
+impl<P: Tariff> Inquiry<'_, P> {
+    // The labels of that layer.
+    pub fn arrivals(&self, work: &[WorkRecord<P::Total>], layer: Layer) -> Arrivals
+        requires within { layer_at (length self.now.stops.now) layer.number + 3 * length self.now.stops.now ≤ length work.now }
+        ensures { Linked self.now.stops.now (label_in (length self.now.stops.now) work.now layer.number) result }
+    {
+        ByShift::each(|shift| self.chained(work, layer, shift))
+    }
+
+    // The labels of its part for that shift.
+    fn chained(&self, work: &[WorkRecord<P::Total>], layer: Layer, shift: Shift) -> Chain
+        requires within { layer_at (length self.now.stops.now) layer.number + 3 * length self.now.stops.now ≤ length work.now }
+        ensures { Chained self.now.stops.now (label_in (length self.now.stops.now) work.now layer.number shift) result.heads result.nexts }
+    {
+        let at = self.part_at(layer, shift);
+        let mut chain = Chain::empty();
+        for (row, stop) in self.stops.iter().enumerate().rev() {
+            if label_at(work, at + row).is_some() {
+                let station = stop.station as usize;
+                chain.nexts[row] = chain.heads[station];
+                chain.heads[station] = Some(row as u16);
+            }
+        }
+        chain
+    }
 }

@@ -1,24 +1,38 @@
-// The cheaper of two labels, and a label with a step more.
-ghost use Rattle.std.specs.Prelude.{◌≡◌};
+// The cheaper of two that have a total, the cheapest of three shifts, and a label with a step more.
+ghost use Rattle.std.specs.Prelude.{◌≡◌, Option};
 ghost use Rattle.connection.specs.Choosing.{mapped, cheaper};
-ghost use Rattle.connection.specs.Settled.{no_dearer};
-ghost use Rattle.search.specs.Working.{stepped};
+ghost use Rattle.connection.specs.declared.ride.Shift.{Shift as AShift};
+ghost use Rattle.search.specs.Shifts.{of_shifts};
+ghost use Rattle.search.specs.Working.{costs_at_most, stepped};
 
 use connection::label::Label;
+use connection::ride::Shift;
 use tariff::Tariff;
 use tariff::step::Step;
 
-// The first where both cost the same. A label that is missing is dearer than any.
-pub fn cheaper<P: Tariff>(
-    tariff: &P,
-    a: Option<Label<P::Total>>,
-    b: Option<Label<P::Total>>,
-) -> Option<Label<P::Total>>
-    ensures { result ≡ cheaper (no_dearer (P.Tariff.meaning tariff.now)) a b }
+// What has a total, and is chosen by it.
+pub trait Priced<T>: Copy {
+    ghost total_of: { Self → T };
+
+    fn total(&self) -> T
+        ensures { result ≡ total_of self.now };
+}
+
+impl<T: Copy> Priced<T> for Label<T> {
+    ghost total_of = { λ l. l.total };
+
+    fn total(&self) -> T {
+        self.total
+    }
+}
+
+// The first where both cost the same. What is missing is dearer than anything.
+pub fn cheaper<P: Tariff, L: Priced<P::Total>>(tariff: &P, a: Option<L>, b: Option<L>) -> Option<L>
+    ensures { result ≡ cheaper (costs_at_most (P.Tariff.meaning tariff.now) L.total_of) a b }
 {
     match (a, b) {
         (Some(first), Some(second)) => {
-            if tariff.at_most(first.total, second.total) {
+            if tariff.at_most(first.total(), second.total()) {
                 Some(first)
             } else {
                 Some(second)
@@ -29,6 +43,20 @@ pub fn cheaper<P: Tariff>(
     }
 }
 
+// The cheapest of what is found for each shift.
+pub fn cheapest_of_shifts<P: Tariff, L: Priced<P::Total>, F: Fn(Shift) -> Option<L>>(
+    tariff: &P,
+    find: F,
+) -> Option<L>
+    requires { F.IsAlwaysCallable find }
+    ensures { (found : AShift → Option L) × ((s : AShift) → F.post find s (found s)) × (result ≡ of_shifts (costs_at_most (P.Tariff.meaning tariff.now) L.total_of) found) }
+{
+    let before = find(Shift::DayBefore);
+    let same = find(Shift::SameDay);
+    let after = find(Shift::DayAfter);
+    cheaper(tariff, before, cheaper(tariff, same, after))
+}
+
 // The label of who goes on by the step.
 pub fn with_step<P: Tariff>(
     tariff: &P,
@@ -37,12 +65,8 @@ pub fn with_step<P: Tariff>(
 ) -> Option<Label<P::Total>>
     ensures { result ≡ mapped (stepped (P.Tariff.meaning tariff.now) step) label }
 {
-    let Some(before) = label else {
-        return None;
-    };
-    Some(Label {
+    label.map(|before| Label {
         total: tariff.add(before.total, step),
-        board: before.board,
-        from: before.from,
+        ..before
     })
 }

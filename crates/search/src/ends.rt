@@ -1,13 +1,14 @@
 // The cheapest label at the destination.
 ghost use Rattle.std.specs.Prelude.{◌≡◌, ◌+◌, ◌*◌, ◌<◌, ◌≤◌, length};
-ghost use Rattle.connection.specs.Choosing.{cheaper};
 ghost use Rattle.connection.specs.Ways.{Among, Best};
 ghost use Rattle.search.specs.Ends.{ends_no_dearer, end_at, EndsIn, Ends};
 ghost use Rattle.search.specs.Working.{layer_at};
 
+use crate::choosing::{Priced, cheaper, cheapest_of_shifts};
+use crate::inquiry::Inquiry;
+use crate::layer::Layer;
 use crate::record::WorkRecord;
-use crate::table::{label_at, number, part_at};
-use book::rows::StopRow;
+use crate::table::label_at;
 use connection::allowed::may_alight;
 use connection::ride::Shift;
 use tariff::Tariff;
@@ -20,112 +21,82 @@ pub struct End<T> {
     pub place: usize,
 }
 
-// The cheapest of the first layers, if one can alight at the destination at all.
-pub fn best_end<P: Tariff>(
-    tariff: &P,
-    stops: &[StopRow],
-    work: &[WorkRecord<P::Total>],
-    layers: usize,
-    destination: u16,
-) -> Option<End<P::Total>>
-    requires few { length stops.now ≤ 4096 }
-    requires shallow { layers ≤ 16 }
-    requires within { layer_at (length stops.now) layers ≤ length work.now }
-    ensures best { Best (ends_no_dearer (P.Tariff.meaning tariff.now)) (Ends stops.now work.now layers destination) result }
-{
-    let mut best = None;
-    // Few rows are at the destination, so the labels of the others are not looked at.
-    for (row, stop) in stops.iter().enumerate() {
-        if stop.station == destination && may_alight(stop) {
-            let end = best_end_of_row(tariff, work, stops.len(), layers, row);
-            best = cheaper_end(tariff, best, end);
-        }
+impl<T: Copy> Priced<T> for End<T> {
+    ghost total_of = { λ e. e.total };
+
+    fn total(&self) -> T {
+        self.total
     }
-    best
 }
 
-// The cheapest of the row's labels in the first layers, whether or not one may alight there.
-fn best_end_of_row<P: Tariff>(
-    tariff: &P,
-    work: &[WorkRecord<P::Total>],
-    size: usize,
-    layers: usize,
-    row: usize,
-) -> Option<End<P::Total>>
-    requires few { size ≤ 4096 }
-    requires shallow { layers ≤ 16 }
-    requires within { layer_at size layers ≤ length work.now }
-    requires inside { row < size }
-    ensures best { Best (ends_no_dearer (P.Tariff.meaning tariff.now)) (Among layers (EndsIn size work.now row)) result }
-{
-    let mut best = None;
-    for layer in 0..layers {
-        best = cheaper_end(tariff, best, best_end_in(tariff, work, size, layer, row));
-    }
-    best
-}
-
-// The cheapest of the row's labels in that layer, one for each shift.
-fn best_end_in<P: Tariff>(
-    tariff: &P,
-    work: &[WorkRecord<P::Total>],
-    size: usize,
-    layer: usize,
-    row: usize,
-) -> Option<End<P::Total>>
-    requires few { size ≤ 4096 }
-    requires shallow { layer ≤ 15 }
-    requires within { layer_at size layer + 3 * size ≤ length work.now }
-    requires inside { row < size }
-    ensures best { Best (ends_no_dearer (P.Tariff.meaning tariff.now)) (EndsIn size work.now row layer) result }
-{
-    let before = end_at(work, size, layer, Shift::DayBefore, row);
-    let same = end_at(work, size, layer, Shift::SameDay, row);
-    let after = end_at(work, size, layer, Shift::DayAfter, row);
-    cheaper_end(tariff, before, cheaper_end(tariff, same, after))
-}
-
-// The row's label in that layer for runs of that shift, as an end.
-fn end_at<T: Copy>(
-    work: &[WorkRecord<T>],
-    size: usize,
-    layer: usize,
-    shift: Shift,
-    row: usize,
-) -> Option<End<T>>
-    requires few { size ≤ 4096 }
-    requires shallow { layer ≤ 15 }
-    requires within { layer_at size layer + 3 * size ≤ length work.now }
-    requires inside { row < size }
-    ensures { result ≡ end_at size work.now layer shift row }
-{
-    let Some(label) = label_at(work, part_at(size, layer, shift) + row) else {
-        return None;
-    };
-    Some(End {
-        total: label.total,
-        layer,
-        place: number(shift) * size + row,
-    })
-}
-
-// The first where both cost the same. An end that is missing is dearer than any.
-fn cheaper_end<P: Tariff>(
-    tariff: &P,
-    a: Option<End<P::Total>>,
-    b: Option<End<P::Total>>,
-) -> Option<End<P::Total>>
-    ensures { result ≡ cheaper (ends_no_dearer (P.Tariff.meaning tariff.now)) a b }
-{
-    match (a, b) {
-        (Some(first), Some(second)) => {
-            if tariff.at_most(first.total, second.total) {
-                Some(first)
-            } else {
-                Some(second)
+impl<P: Tariff> Inquiry<'_, P> {
+    // The cheapest of the first layers, if one can alight at the destination at all.
+    pub fn best_end(&self, work: &[WorkRecord<P::Total>], layers: usize) -> Option<End<P::Total>>
+        requires shallow { layers ≤ 16 }
+        requires within { layer_at (length self.now.stops.now) layers ≤ length work.now }
+        ensures best { Best (ends_no_dearer (P.Tariff.meaning self.now.tariff.now)) (Ends self.now.stops.now work.now layers self.now.query.now.destination) result }
+    {
+        let mut best = None;
+        // Few rows are at the destination, so the labels of the others are not looked at.
+        for (row, stop) in self.stops.iter().enumerate() {
+            if stop.station == self.query.destination && may_alight(stop) {
+                best = cheaper(self.tariff, best, self.best_end_of_row(work, layers, row));
             }
         }
-        (None, _) => b,
-        (_, None) => a,
+        best
+    }
+
+    // The cheapest of the row's labels in the first layers, whether or not one may alight there.
+    fn best_end_of_row(
+        &self,
+        work: &[WorkRecord<P::Total>],
+        layers: usize,
+        row: usize,
+    ) -> Option<End<P::Total>>
+        requires shallow { layers ≤ 16 }
+        requires within { layer_at (length self.now.stops.now) layers ≤ length work.now }
+        requires inside { row < length self.now.stops.now }
+        ensures best { Best (ends_no_dearer (P.Tariff.meaning self.now.tariff.now)) (Among layers (EndsIn (length self.now.stops.now) work.now row)) result }
+    {
+        let mut best = None;
+        for number in 0..layers {
+            let end = self.best_end_in(work, Layer { number }, row);
+            best = cheaper(self.tariff, best, end);
+        }
+        best
+    }
+
+    // The cheapest of the row's labels in that layer, one for each shift.
+    fn best_end_in(
+        &self,
+        work: &[WorkRecord<P::Total>],
+        layer: Layer,
+        row: usize,
+    ) -> Option<End<P::Total>>
+        requires within { layer_at (length self.now.stops.now) layer.number + 3 * length self.now.stops.now ≤ length work.now }
+        requires inside { row < length self.now.stops.now }
+        ensures best { Best (ends_no_dearer (P.Tariff.meaning self.now.tariff.now)) (EndsIn (length self.now.stops.now) work.now row layer.number) result }
+    {
+        cheapest_of_shifts(self.tariff, |shift| self.end_at(work, layer, shift, row))
+    }
+
+    // The row's label in that layer for runs of that shift, as an end.
+    fn end_at(
+        &self,
+        work: &[WorkRecord<P::Total>],
+        layer: Layer,
+        shift: Shift,
+        row: usize,
+    ) -> Option<End<P::Total>>
+        requires within { layer_at (length self.now.stops.now) layer.number + 3 * length self.now.stops.now ≤ length work.now }
+        requires inside { row < length self.now.stops.now }
+        ensures { result ≡ end_at (length self.now.stops.now) work.now layer.number shift row }
+    {
+        let place = self.place(shift, row);
+        label_at(work, self.part_at(layer, shift) + row).map(|label| End {
+            total: label.total,
+            layer: layer.number,
+            place,
+        })
     }
 }

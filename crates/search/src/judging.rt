@@ -1,5 +1,6 @@
 // Judges a query ahead of looking for a connection.
 ghost use Rattle.std.specs.Prelude.{◌≡◌, ◌≤◌};
+ghost use Rattle.std.specs.Result.{result_err};
 ghost use Rattle.search.specs.Refusals.{bad_query, query_refusal};
 
 use crate::refusal::Refusal;
@@ -24,28 +25,23 @@ fn is_bad(query: &Query) -> bool
         || query.changes > MOST_CHANGES
 }
 
-// Why the query is refused, over a book with so many stops in use, and with so much room for rides and records.
-pub fn refusal_of(
-    query: &Query,
-    stops: usize,
-    ride_room: usize,
-    work_room: usize,
-) -> Option<Refusal>
+// Refuses the query that cannot be put to a book with so many stops in use, or that lacks room for its rides and records.
+pub fn judge(query: &Query, stops: usize, ride_room: usize, work_room: usize) -> Result<(), Refusal>
     requires few { stops ≤ 4096 }
-    ensures { result ≡ query_refusal query.now stops ride_room work_room }
+    ensures { result_err result ≡ query_refusal query.now stops ride_room work_room }
 {
     if is_bad(query) {
-        return Some(Refusal::BadQuery);
+        return Err(Refusal::BadQuery);
     }
     if query.origin == query.destination {
-        return Some(Refusal::SameStation);
+        return Err(Refusal::SameStation);
     }
     let most_rides = query.changes as usize + 1;
     if ride_room < most_rides {
-        return Some(Refusal::ShortRides);
+        return Err(Refusal::ShortRides);
     }
     if work_room < 3 * stops * most_rides {
-        return Some(Refusal::ShortWork);
+        return Err(Refusal::ShortWork);
     }
-    None
+    Ok(())
 }

@@ -18,16 +18,20 @@ ghost use Rattle.search.specs.Refusals.{search_refusal};
 
 mod asking;
 mod boarding;
+mod by_shift;
 mod chains;
 mod cheapest;
 mod choosing;
 mod ends;
+mod inquiry;
 mod judging;
+mod layer;
 mod layers;
 mod minutes;
 pub mod record;
 pub mod refusal;
 mod riding;
+mod run;
 mod table;
 mod trail;
 
@@ -35,10 +39,11 @@ use book::histories::every_history_holds;
 use book::rows::{StopRow, TrainRow};
 use book::state::Book;
 use calendar::Calendar;
-use cheapest::{blank_all, cheapest};
+use cheapest::blank_all;
 use connection::query::Query;
 use connection::ride::Ride;
-use judging::refusal_of;
+use inquiry::Inquiry;
+use judging::judge;
 use record::WorkRecord;
 use refusal::Refusal;
 use tariff::Tariff;
@@ -68,15 +73,17 @@ pub fn search<P: Tariff, C: Calendar>(
 {
     // rows that pass the check keep the rules, and after every history they hold the trains in force
     every_history_holds();
-    if let Err(refusal) = book.check(trains, stops) {
-        return Err(Refusal::Book(refusal));
-    }
+    book.check(trains, stops)?;
     let trains = &trains[0..book.trains() as usize];
     let stops = &stops[0..book.stops() as usize];
-    if let Some(refusal) = refusal_of(&query, stops.len(), rides.len(), work.len()) {
-        return Err(refusal);
-    }
-    let found = cheapest(tariff, calendar, &query, trains, stops, rides, work);
+    judge(&query, stops.len(), rides.len(), work.len())?;
+    let inquiry = Inquiry {
+        tariff,
+        query: &query,
+        trains,
+        stops,
+    };
+    let found = inquiry.cheapest(calendar, rides, work);
     blank_all(work);
     found
 }

@@ -1,64 +1,56 @@
 // When a run is at a stop, and the steps that a traveller makes there.
-ghost use Rattle.std.specs.Prelude.{◌≡◌, ◌+◌, ◌-◌, ◌≤◌};
-ghost use Rattle.book.specs.Limits.{last_minute};
+ghost use Rattle.std.specs.Prelude.{◌≡◌, ◌+◌, ◌-◌, ◌<◌, length};
+ghost use Rattle.book.specs.Rules.{stop_at};
 ghost use Rattle.connection.specs.Clock.{midnight, ready};
 ghost use Rattle.connection.specs.Prices.{stretch, hop, stand, as_step};
 ghost use Rattle.connection.specs.Rides.{arrival, departure, fare_on};
 
+use crate::inquiry::Inquiry;
 use book::rows::StopRow;
-use connection::query::Query;
 use connection::ride::Shift;
 use tariff::step::{Kind, Step};
 
 fn arrival(stop: &StopRow) -> u16
     ensures { result ≡ arrival stop.now }
 {
-    match stop.arrive {
-        Some(minute) => minute,
-        None => 0,
-    }
+    stop.arrive.unwrap_or(0)
 }
 
 fn departure(stop: &StopRow) -> u16
     ensures { result ≡ departure stop.now }
 {
-    match stop.depart {
-        Some(departure) => departure.minute,
-        None => 0,
-    }
+    stop.depart.map_or(0, |departure| departure.minute)
 }
 
 fn fare_on(stop: &StopRow) -> u16
     ensures { result ≡ fare_on stop.now }
 {
-    match stop.depart {
-        Some(departure) => departure.fare,
-        None => 0,
+    stop.depart.map_or(0, |departure| departure.fare)
+}
+
+impl<P> Inquiry<'_, P> {
+    // The minute at which the run of that shift gets to the stop in the row.
+    pub fn reaches(&self, row: usize, shift: Shift) -> u16
+        requires inside { row < length self.now.stops.now }
+        ensures { result ≡ arrival (stop_at self.now.stops.now row) + midnight shift }
+    {
+        arrival(&self.stops[row]) + shift.midnight()
     }
-}
 
-// The minute at which the run of that shift gets to the stop.
-pub fn reaches(stop: &StopRow, shift: Shift) -> u16
-    requires timely { arrival stop.now ≤ last_minute }
-    ensures { result ≡ arrival stop.now + midnight shift }
-{
-    arrival(stop) + shift.midnight()
-}
+    // The minute at which it leaves that stop.
+    pub fn leaves(&self, row: usize, shift: Shift) -> u16
+        requires inside { row < length self.now.stops.now }
+        ensures { result ≡ departure (stop_at self.now.stops.now row) + midnight shift }
+    {
+        departure(&self.stops[row]) + shift.midnight()
+    }
 
-// The minute at which it leaves the stop.
-pub fn leaves(stop: &StopRow, shift: Shift) -> u16
-    requires timely { departure stop.now ≤ last_minute }
-    ensures { result ≡ departure stop.now + midnight shift }
-{
-    departure(stop) + shift.midnight()
-}
-
-// The minute from which the traveller waits at the origin.
-pub fn ready(query: &Query) -> u16
-    requires asked { query.now.minute ≤ 1439 }
-    ensures { result ≡ ready query.now }
-{
-    query.minute + Shift::SameDay.midnight()
+    // The minute from which the traveller waits at the origin.
+    pub fn ready(&self) -> u16
+        ensures { result ≡ ready self.now.query.now }
+    {
+        self.query.minute + Shift::SameDay.midnight()
+    }
 }
 
 // A wait at a station: at the start, or for a change.

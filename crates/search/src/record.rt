@@ -6,7 +6,7 @@ use connection::label::Label;
 
 // A total of whichever tariff the search brings, or none, and from where it came: the stop where the run was boarded, and
 // the record with a change less from which one changed.
-#[derive(Clone, Copy)]
+#[derive(Clone, Copy, PartialEq)]
 pub struct WorkRecord<T> {
     pub total: Option<T>,
     pub board: u8,
@@ -25,29 +25,29 @@ impl<T: Copy> WorkRecord<T> {
         }
     }
 
-    pub(crate) fn of(label: Option<Label<T>>) -> WorkRecord<T>
-        ensures { result ≡ record_of label }
+    pub(crate) fn label(self) -> Option<Label<T>>
+        ensures { result ≡ label_of self }
     {
-        match label {
-            Some(l) => WorkRecord {
+        self.total.map(|total| Label {
+            total,
+            board: self.board,
+            from: self.from,
+        })
+    }
+}
+
+// The record that holds the label, or that is blank where there is none.
+impl<T: Copy> From<Option<Label<T>>> for WorkRecord<T> {
+    ghost from_gives = { λ label r. r ≡ record_of label };
+
+    fn from(label: Option<Label<T>>) -> WorkRecord<T> {
+        label.map_or(
+            WorkRecord::blank(),
+            |l| WorkRecord {
                 total: Some(l.total),
                 board: l.board,
                 from: l.from,
             },
-            None => WorkRecord::blank(),
-        }
-    }
-
-    pub(crate) fn label(self) -> Option<Label<T>>
-        ensures { result ≡ label_of self }
-    {
-        match self.total {
-            Some(total) => Some(Label {
-                total,
-                board: self.board,
-                from: self.from,
-            }),
-            None => None,
-        }
+        )
     }
 }

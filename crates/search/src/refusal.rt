@@ -1,8 +1,11 @@
 // Why a search is refused.
-ghost use Rattle.std.specs.Prelude.{◌≡◌};
-ghost use Rattle.search.specs.Refusals.{number};
+ghost use Rattle.std.specs.Prelude.{◌≡◌, Some};
+ghost use Rattle.search.specs.Refusals.{number, words_of};
+ghost use Rattle.search.specs.declared.refusal.Refusal.TheVariants.{Book};
 
 use book::refusal;
+use std::error::Error;
+use std::fmt;
 
 // In the order in which they are looked for.
 #[derive(Clone, Copy, PartialEq, Eq, Debug)]
@@ -27,7 +30,7 @@ impl Refusal {
         ensures { result ≡ number self.now }
     {
         match self {
-            Refusal::Book(refusal) => refusal.number(),
+            Refusal::Book(reason) => reason.number(),
             Refusal::BadQuery => 13,
             Refusal::SameStation => 14,
             Refusal::ShortRides => 15,
@@ -36,3 +39,34 @@ impl Refusal {
         }
     }
 }
+
+impl From<refusal::Refusal> for Refusal {
+    ghost from_gives = { λ refusal r. r ≡ Book refusal };
+
+    fn from(refusal: refusal::Refusal) -> Refusal {
+        Refusal::Book(refusal)
+    }
+}
+
+// In plain words.
+impl fmt::Display for Refusal {
+    ghost output = { λ r. Some (words_of r) };
+
+    fn fmt<W: fmt::Write>(&self, f: &mut fmt::Formatter<W>) -> fmt::Result {
+        match self {
+            Refusal::Book(_) => write!(f, "the tables do not hold what the book says"),
+            Refusal::BadQuery => {
+                write!(
+                    f,
+                    "a station, the day, the minute or the change limit is out of bounds"
+                )
+            }
+            Refusal::SameStation => write!(f, "origin and destination are equal"),
+            Refusal::ShortRides => write!(f, "the ride list is too short"),
+            Refusal::ShortWork => write!(f, "the work table is too short"),
+            Refusal::NoConnection => write!(f, "no connection"),
+        }
+    }
+}
+
+impl Error for Refusal {}

@@ -2,137 +2,123 @@
 ghost use Rattle.std.specs.Prelude.{◌≡◌, ◌+◌, ◌-◌, ◌*◌, ◌<◌, ◌≤◌, length};
 ghost use Rattle.book.specs.Answers.{train_row};
 ghost use Rattle.connection.specs.Choosing.{mapped, cheaper as cheaper_of};
-ghost use Rattle.connection.specs.Prices.{hop as hop_of, stand as StandOf};
+ghost use Rattle.connection.specs.Prices.{hop as hop_of, stand as stand_of};
 ghost use Rattle.connection.specs.Settled.{extended, no_dearer};
 ghost use Rattle.search.specs.Chains.{Linked};
-ghost use Rattle.search.specs.Layers.{Timetable, Fills, RunAsked, run_begins, run_ends};
-ghost use Rattle.search.specs.Working.{Askable, layer_at, label_in, costs_no_more, beaten, unless_beaten};
+ghost use Rattle.search.specs.Layers.{Fills, RunAsked, run_begins, run_ends};
+ghost use Rattle.search.specs.Working.{layer_at, label_at as label_of_record, label_in, costs_no_more, beaten, unless_beaten};
 
-use crate::boarding::boarding;
 use crate::chains::Arrivals;
 use crate::choosing::{cheaper, with_step};
+use crate::inquiry::Inquiry;
+use crate::layer::Layer;
 use crate::minutes::{hop, stand};
 use crate::record::WorkRecord;
-use crate::table::{label_at, number, part_at, put_label};
-use book::rows::{StopRow, TrainRow};
+use crate::run::Run;
+use crate::table::{label_at, put_label};
+use book::rows::StopRow;
 use connection::label::Label;
-use connection::query::Query;
-use connection::ride::Shift;
 use tariff::Tariff;
 
-// The label at the next stop, of who has just boarded or of who was on board already, whichever is cheaper.
-fn ride_on<P: Tariff>(
-    tariff: &P,
-    boarded: Option<Label<P::Total>>,
-    aboard: Option<Label<P::Total>>,
-    stop: &StopRow,
-    next: &StopRow,
-) -> Option<Label<P::Total>>
-    ensures { result ≡ mapped (extended (P.Tariff.meaning tariff.now) (hop_of stop.now next.now)) (cheaper_of (no_dearer (P.Tariff.meaning tariff.now)) boarded (mapped (extended (P.Tariff.meaning tariff.now) (StandOf stop.now)) aboard)) }
-{
-    let stayed = with_step(tariff, aboard, stand(stop));
-    with_step(tariff, cheaper(tariff, boarded, stayed), hop(stop, next))
-}
-
-fn costs_no_more<P: Tariff>(tariff: &P, label: Option<Label<P::Total>>, total: P::Total) -> bool
-    ensures { result ≡ costs_no_more (P.Tariff.meaning tariff.now) label total }
-{
-    match label {
-        Some(l) => tariff.at_most(l.total, total),
-        None => false,
-    }
-}
-
-// Whether a label with fewer changes at the same place is no dearer.
-fn is_beaten<P: Tariff>(
-    tariff: &P,
-    size: usize,
-    work: &[WorkRecord<P::Total>],
-    layer: usize,
-    place: usize,
-    total: P::Total,
-) -> bool
-    requires few { size ≤ 4096 }
-    requires shallow { layer ≤ 15 }
-    requires within { layer_at size layer ≤ length work.now }
-    requires placed { place < 3 * size }
-    ensures { result ≡ beaten (P.Tariff.meaning tariff.now) size work.now place layer total }
-{
-    for k in 0..layer {
-        if costs_no_more(tariff, label_at(work, k * (3 * size) + place), total) {
-            return true;
+impl<P: Tariff> Inquiry<'_, P> {
+    // Writes the labels of the run in the layer. Where it says no, there is none.
+    pub fn fill_run(
+        &self,
+        work: &mut [WorkRecord<P::Total>],
+        layer: Layer,
+        arrivals: &Arrivals,
+        usable: bool,
+        run: Run,
+    ) -> bool
+        requires within { layer_at (length self.now.stops.now) (layer.number + 1) ≤ length work.old }
+        requires linked { 0 < layer.number → Linked self.now.stops.now (label_in (length self.now.stops.now) work.old (layer.number - 1)) arrivals.now }
+        requires in_force { run.train < length self.now.trains.now }
+        ensures { Fills (P.Tariff.meaning self.now.tariff.now) self.now.query.now self.now.trains.now self.now.stops.now layer.number (RunAsked self.now.query.now (train_row run.train self.now.trains.now) run.shift usable) work.old work.new (run_begins self.now.trains.now (length self.now.stops.now) run.train run.shift) (run_ends self.now.trains.now (length self.now.stops.now) run.train run.shift) result }
+    {
+        let train = self.trains[run.train];
+        let first = train.first as usize;
+        let place = self.place(run.shift, first);
+        let at = self.part_at(layer, run.shift) + first;
+        let stops = train.stops(self.stops);
+        let mut found = false;
+        let mut aboard = None;
+        for (i, stop) in stops.iter().enumerate() {
+            aboard = self.unless_beaten(work, layer, place + i, aboard);
+            put_label(work, at + i, aboard);
+            found |= aboard.is_some();
+            if let Some(next) = stops.get(i + 1) {
+                let boarded = self.boarding(work, layer, arrivals, usable, run, i);
+                aboard = self.ride_on(boarded, aboard, stop, next);
+            }
         }
+        found
     }
-    false
-}
 
-// A label is not worth following where one with fewer changes is no dearer.
-fn unless_beaten<P: Tariff>(
-    tariff: &P,
-    size: usize,
-    work: &[WorkRecord<P::Total>],
-    layer: usize,
-    place: usize,
-    label: Option<Label<P::Total>>,
-) -> Option<Label<P::Total>>
-    requires few { size ≤ 4096 }
-    requires shallow { layer ≤ 15 }
-    requires within { layer_at size layer ≤ length work.now }
-    requires placed { place < 3 * size }
-    ensures { result ≡ unless_beaten (P.Tariff.meaning tariff.now) size work.now place layer label }
-{
-    let Some(new) = label else {
-        return None;
-    };
-    if is_beaten(tariff, size, work, layer, place, new.total) {
-        return None;
+    // The label at the next stop, of who has just boarded or of who was on board already, whichever is cheaper.
+    fn ride_on(
+        &self,
+        boarded: Option<Label<P::Total>>,
+        aboard: Option<Label<P::Total>>,
+        stop: &StopRow,
+        next: &StopRow,
+    ) -> Option<Label<P::Total>>
+        ensures { result ≡ mapped (extended (P.Tariff.meaning self.now.tariff.now) (hop_of stop.now next.now)) (cheaper_of (no_dearer (P.Tariff.meaning self.now.tariff.now)) boarded (mapped (extended (P.Tariff.meaning self.now.tariff.now) (stand_of stop.now)) aboard)) }
+    {
+        let stayed = with_step(self.tariff, aboard, stand(stop));
+        with_step(
+            self.tariff,
+            cheaper(self.tariff, boarded, stayed),
+            hop(stop, next),
+        )
     }
-    Some(new)
-}
 
-// Writes the labels of the run of that shift of the train `n`, after `layer` changes. Where it says no, there is none.
-pub fn fill_run<P: Tariff>(
-    tariff: &P,
-    query: &Query,
-    trains: &[TrainRow],
-    stops: &[StopRow],
-    work: &mut [WorkRecord<P::Total>],
-    layer: usize,
-    arrivals: &Arrivals,
-    usable: bool,
-    n: usize,
-    shift: Shift,
-) -> bool
-    requires askable { Askable query.now }
-    requires timetable { Timetable trains.now stops.now }
-    requires shallow { layer ≤ 15 }
-    requires within { layer_at (length stops.now) (layer + 1) ≤ length work.old }
-    requires linked { 0 < layer → Linked stops.now (label_in (length stops.now) work.old (layer - 1)) arrivals.now }
-    requires in_force { n < length trains.now }
-    ensures { Fills (P.Tariff.meaning tariff.now) query.now trains.now stops.now layer (RunAsked query.now (train_row n trains.now) shift usable) work.old work.new (run_begins trains.now (length stops.now) n shift) (run_ends trains.now (length stops.now) n shift) result }
-{
-    let first = trains[n].first as usize;
-    let count = trains[n].count as usize;
-    let at = part_at(stops.len(), layer, shift) + first;
-    let place = number(shift) * stops.len() + first;
-    let mut found = false;
-    let mut aboard = None;
-    for i in 0..count {
-        aboard = unless_beaten(tariff, stops.len(), work, layer, place + i, aboard);
-        put_label(work, at + i, aboard);
-        found |= aboard.is_some();
-        if i + 1 < count {
-            let boarded = boarding(
-                tariff, query, trains, stops, work, layer, arrivals, usable, n, shift, i,
-            );
-            aboard = ride_on(
-                tariff,
-                boarded,
-                aboard,
-                &stops[first + i],
-                &stops[first + i + 1],
-            );
+    // The label, unless one with fewer changes at the same place is no dearer: then it is not worth following.
+    fn unless_beaten(
+        &self,
+        work: &[WorkRecord<P::Total>],
+        layer: Layer,
+        place: usize,
+        label: Option<Label<P::Total>>,
+    ) -> Option<Label<P::Total>>
+        requires within { layer_at (length self.now.stops.now) layer.number ≤ length work.now }
+        requires placed { place < 3 * length self.now.stops.now }
+        ensures { result ≡ unless_beaten (P.Tariff.meaning self.now.tariff.now) (length self.now.stops.now) work.now place layer.number label }
+    {
+        let new = label?;
+        if self.is_beaten(work, layer, place, new.total) {
+            return None;
         }
+        label
     }
-    found
+
+    // Whether a label with fewer changes at the place is no dearer.
+    fn is_beaten(
+        &self,
+        work: &[WorkRecord<P::Total>],
+        layer: Layer,
+        place: usize,
+        total: P::Total,
+    ) -> bool
+        requires within { layer_at (length self.now.stops.now) layer.number ≤ length work.now }
+        requires placed { place < 3 * length self.now.stops.now }
+        ensures { result ≡ beaten (P.Tariff.meaning self.now.tariff.now) (length self.now.stops.now) work.now place layer.number total }
+    {
+        (0..layer.number).any(|before| self.costs_no_more(work, before, place, total))
+    }
+
+    // Whether the label at the place of that layer is there, and is no dearer.
+    fn costs_no_more(
+        &self,
+        work: &[WorkRecord<P::Total>],
+        layer: usize,
+        place: usize,
+        total: P::Total,
+    ) -> bool
+        requires within { layer_at (length self.now.stops.now) layer + place < length work.now }
+        ensures { result ≡ costs_no_more (P.Tariff.meaning self.now.tariff.now) (label_of_record work.now (layer_at (length self.now.stops.now) layer + place)) total }
+    {
+        label_at(work, layer * (3 * self.stops.len()) + place).is_some_and(|l| self
+            .tariff
+            .at_most(l.total, total))
+    }
 }

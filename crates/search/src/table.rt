@@ -1,15 +1,17 @@
 // Where a record stands in the work table, and the label that it holds.
-ghost use Rattle.std.specs.Prelude.{◌≡◌, ◌<◌, ◌≤◌, length, slice_set};
+ghost use Rattle.std.specs.Prelude.{◌≡◌, ◌+◌, ◌*◌, ◌<◌, ◌≤◌, length, slice_set};
 ghost use Rattle.search.specs.Records.{record_of};
-ghost use Rattle.search.specs.Working.{number as number_of_lem, part_at, label_at};
+ghost use Rattle.search.specs.Working.{number as number_of, place, part_at, label_at};
 
+use crate::inquiry::Inquiry;
+use crate::layer::Layer;
 use crate::record::WorkRecord;
 use connection::label::Label;
 use connection::ride::Shift;
 
 // The parts of a layer in their order.
-pub fn number(shift: Shift) -> usize
-    ensures is { result ≡ number_of_lem shift }
+fn number(shift: Shift) -> usize
+    ensures is { result ≡ number_of shift }
     ensures below { result < 3 }
 {
     match shift {
@@ -19,13 +21,21 @@ pub fn number(shift: Shift) -> usize
     }
 }
 
-// Where the part of a layer for that shift begins.
-pub fn part_at(size: usize, layer: usize, shift: Shift) -> usize
-    requires few { size ≤ 4096 }
-    requires shallow { layer ≤ 15 }
-    ensures { result ≡ part_at size layer shift }
-{
-    layer * (3 * size) + number(shift) * size
+impl<P> Inquiry<'_, P> {
+    // The place in a layer of the row in the part for that shift.
+    pub fn place(&self, shift: Shift, row: usize) -> usize
+        requires inside { row ≤ length self.now.stops.now }
+        ensures { result ≡ place (length self.now.stops.now) shift row }
+    {
+        number(shift) * self.stops.len() + row
+    }
+
+    // Where the part of the layer for that shift begins.
+    pub fn part_at(&self, layer: Layer, shift: Shift) -> usize
+        ensures { result ≡ part_at (length self.now.stops.now) layer.number shift }
+    {
+        layer.number * (3 * self.stops.len()) + number(shift) * self.stops.len()
+    }
 }
 
 // The label in the record at that place of the table.
@@ -41,5 +51,5 @@ pub fn put_label<T: Copy>(work: &mut [WorkRecord<T>], at: usize, label: Option<L
     requires within { at < length work.old }
     ensures { work.new ≡ slice_set work.old at (record_of label) }
 {
-    work[at] = WorkRecord::of(label);
+    work[at] = WorkRecord::from(label);
 }

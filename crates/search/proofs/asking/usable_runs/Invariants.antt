@@ -1,9 +1,0 @@
-use Rattle.std.proofs.Common.{◌≡◌, ℕ, ◌<◌, false, length, get_or}
-use Rattle.book.specs.Answers.{train_row}
-use Rattle.search.specs.Working.{may_use}
-use Rattle.search.proofs.asking.usable_runs.Given as goal
-
-abbrev pub invariant-loop-n : goal.invariant-loop-n
-invariant-loop-n g l =
-    (length l.usable ≡ 512)
-    × ((k : ℕ) → k < l.n → get_or l.usable k false ≡ may_use (g.C.Calendar.runs l.calendar) l.query (train_row k l.trains) l.shift)

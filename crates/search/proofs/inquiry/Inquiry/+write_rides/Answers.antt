@@ -1,0 +1,71 @@
+use Rattle.std.proofs.Common.{◌+◌, ◌*◌, ◌≤◌, length, mul-le-mul_right, arith}
+use Rattle.search.proofs.TrailsAreWritten.{trail_inside, last_inside, last_is, trail_before, first_ends, next_ends}
+use Rattle.search.proofs.inquiry.Inquiry.+write_rides.Goals as goal
+use Rattle.search.proofs.inquiry.Inquiry.+write_rides.Goals.{in-Some, in_default}
+
+pub overflow_add-last : goal.overflow_add-last
+overflow_add-last g t c =
+    let a = c.args in
+    let now = a.self.now in
+    let size = 3 * length now.stops.now in
+    let m : a.layer.number * size ≤ 15 * size = mul-le-mul_right {m = a.layer.number} {n = 15} size a.layer.shallow in
+    omega (arith, now.ordered.few_stops, trail_inside now.trains.now now.stops.now now.ordered a.work.now a.layer.number a.place c.requires.told)
+
+pub offset_bounds-work-layer : goal.offset_bounds-work-layer
+offset_bounds-work-layer g t c =
+    let a = c.args in
+    let now = a.self.now in
+    omega (arith, last_inside now.trains.now now.stops.now now.ordered a.work.now a.layer.number a.place c.requires.within c.requires.told)
+
+pub bounds-work-layer : goal.bounds-work-layer
+bounds-work-layer g t c =
+    let a = c.args in
+    let now = a.self.now in
+    last_inside now.trains.now now.stops.now now.ordered a.work.now a.layer.number a.place c.requires.within c.requires.told
+
+pub overflow_cast-last : goal.overflow_cast-last
+overflow_cast-last g t c =
+    let a = c.args in
+    let now = a.self.now in
+    let p = c.requires in
+    let x = c.index-work-layer.result in
+    let j = c.in-Some.before.number in
+    let is = last_is now.trains.now now.stops.now now.ordered a.work.now a.layer.number a.place x p.within p.told c.index-work-layer.is in
+    let before = trail_before now.trains.now now.stops.now now.ordered a.work.now a.layer.number j a.place x is c.in-Some.ensures p.told in
+    omega (arith, now.ordered.few_stops, trail_inside now.trains.now now.stops.now now.ordered a.work.now j x.from before)
+
+pub write_rides-requires : goal.write_rides-requires
+write_rides-requires g t c κs within =
+    let a = c.args in
+    let now = a.self.now in
+    let p = c.requires in
+    let x = c.index-work-layer.result in
+    let j = c.in-Some.before.number in
+    let is = last_is now.trains.now now.stops.now now.ordered a.work.now a.layer.number a.place x p.within p.told c.index-work-layer.is in
+    let before = trail_before now.trains.now now.stops.now now.ordered a.work.now a.layer.number j a.place x is c.in-Some.ensures p.told in
+    let size = 3 * length now.stops.now in
+    let m : (j + 1) * size ≤ (a.layer.number + 1) * size = mul-le-mul_right {m = j + 1} {n = a.layer.number + 1} size (omega (arith, c.in-Some.ensures)) in
+    (omega (arith, c.in-Some.ensures), (within.0, (within.1, (omega (arith, m), (omega (arith, c.in-Some.ensures), before)))))
+
+pub ride_to-requires : goal.ride_to-requires
+ride_to-requires g t c =
+    let a = c.args in
+    let now = a.self.now in
+    record { inside = trail_inside now.trains.now now.stops.now now.ordered a.work.now a.layer.number a.place c.requires.told }
+
+pub returns : goal.returns
+returns g t c =
+    let a = c.args in
+    let now = a.self.now in
+    let p = c.requires in
+    let x = c.index-work-layer.result in
+    let is = last_is now.trains.now now.stops.now now.ordered a.work.now a.layer.number a.place x p.within p.told c.index-work-layer.is in
+    let made = c.ride_to.ensures in
+    record {
+      written = elim c.match-before.branch [
+        | in-Some w ↦
+            next_ends now.trains.now now.stops.now now.ordered a.work.now a.layer.number w.in-Some.before.number a.place x a.rides.now w.write_rides.new.rides c.match-before.rides c.ride_to.result is w.in-Some.ensures p.room made.ends made.boards w.write_rides.ensures.written w.rides-is
+        | in_default w ↦
+            first_ends now.trains.now now.stops.now now.ordered a.work.now a.layer.number a.place x a.rides.now c.match-before.rides c.ride_to.result is w.in_default.ensures p.room made.ends made.boards w.rides-is
+      ];
+    }

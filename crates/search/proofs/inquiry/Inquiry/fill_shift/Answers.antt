@@ -1,0 +1,47 @@
+use Rattle.std.proofs.Common.{ℕ, ◌+◌, ◌-◌, false, length, sym, ap, ◌∙◌, subst, add-one, arith}
+use Rattle.std.proofs.lemmas.List.{length-take-le, get_or-take}
+use Rattle.book.specs.Answers.{train_row}
+use Rattle.search.specs.Layers.{Fills, ShiftAsked}
+use Rattle.search.specs.Working.{place}
+use Rattle.search.proofs.FillingLayers.{fills_none, fills_then}
+use Rattle.search.proofs.RowsAreTrains.{first_first, next_first, last_ends, none_none}
+use Rattle.search.proofs.Unchanged.{linked_same}
+use Rattle.search.proofs.inquiry.Inquiry.fill_shift.Goals as goal
+
+pub loop-train-init : goal.loop-train-init
+loop-train-init g c =
+    let s = c.args.self.now in
+    (0, fills_none s.ordered, λ h. first_first s.trains.now s.stops.now s.ordered h, λ h. sym (none_none s.trains.now s.stops.now s.ordered (omega arith)))
+
+pub fill_run-found-requires-clause-linked : goal.fill_run-found-requires-clause-linked
+fill_run-found-requires-clause-linked g c later =
+    let a = c.args in
+    let s = a.self.now in
+    let so_far = c.loop-train.invariant.1 in
+    linked_same s.stops.now a.layer.number (a.layer.number - 1) a.work.now c.loop-train.work a.arrivals.now (omega arith) (λ z h. so_far.unchanged z (omega arith)) (c.requires.linked later)
+
+pub loop-train-preserved : goal.loop-train-preserved
+loop-train-preserved g c =
+    let a = c.args in
+    let s = a.self.now in
+    let l = c.loop-train in
+    let size = length s.stops.now in
+    let count = length s.trains.now in
+    let train = train_row l.train s.trains.now in
+    let long = length-take-le count a.usable.now c.requires.each in
+    let here = l.invariant.2 (omega arith) in
+    let before = subst (λ (r : ℕ). Fills (g.P.Tariff.meaning s.tariff.now) s.query.now s.trains.now s.stops.now a.layer.number (ShiftAsked s.query.now s.trains.now a.shift a.usable.now) a.work.now l.work (place size a.shift 0) (place size a.shift r) l.found) (sym here) l.invariant.1 in (
+      train.first + train.count,
+      fills_then s.ordered before c.fill_run-found.ensures (λ runs may. get_or-take count a.usable.now l.train false (omega arith) ∙ may l.train (omega arith)) (omega arith),
+      λ h. ap (λ n. (train_row n s.trains.now).first) (add-one l.train) ∙ next_first s.trains.now s.stops.now s.ordered l.train (omega arith),
+      λ h. last_ends s.trains.now s.stops.now s.ordered l.train (omega arith),
+    )
+
+pub returns : goal.returns
+returns g c =
+    let a = c.args in
+    let s = a.self.now in
+    let l = c.loop-train in
+    let size = length s.stops.now in
+    let long = length-take-le (length s.trains.now) a.usable.now c.requires.each in
+    subst (λ (r : ℕ). Fills (g.P.Tariff.meaning s.tariff.now) s.query.now s.trains.now s.stops.now a.layer.number (ShiftAsked s.query.now s.trains.now a.shift a.usable.now) a.work.now l.work (place size a.shift 0) (place size a.shift r) l.found) (l.invariant.3 (omega arith)) l.invariant.1
