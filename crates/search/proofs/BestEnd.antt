@@ -1,5 +1,5 @@
 -- The best end of the rows at the destination is the best end.
-use Rattle.std.proofs.Common.{◌≡◌, ℕ, suc, ◌+◌, ◌*◌, ◌<◌, ◌≤◌, T, List, length, Some, None, Option, sym, refl, ap, ◌∙◌, subst, mul-le-mul_right, arith}
+use Rattle.std.proofs.Common.{◌≡◌, ℕ, ◌+◌, ◌<◌, T, List, length, Some, None, Option, sym, refl, ap, ◌∙◌, subst}
 use Rattle.std.proofs.lemmas.Option.{none-some, same_Some}
 use Rattle.std.specs.Option.{option_map}
 use Rattle.tariff.specs.Laws.{Connex, Transitive}
@@ -11,16 +11,10 @@ use Rattle.connection.specs.Rides.{may_alight}
 use Rattle.connection.specs.Ways.{Among, Best}
 use Rattle.connection.proofs.Best.{best_same}
 use Rattle.search.specs.Ends.{ends_no_dearer, end_of, EndsIn, Ends, EndsAt}
-use Rattle.search.specs.Working.{place, layer_at, label_in}
+use Rattle.search.specs.Working.{place, label_in}
 use Rattle.search.specs.declared.ends.End.{End}
 use Rattle.search.specs.declared.record.WorkRecord.{WorkRecord}
 use Rattle.search.proofs.Chosen.{chosen_more}
-
--- a layer below the last of the table ends within it
-pub layer_within : (size layer layers most : ℕ) → layer < layers → layer_at size layers ≤ most → layer_at size layer + 3 * size ≤ most
-layer_within size layer layers most h w =
-    let k : suc layer ≤ layers = omega arith in
-    omega (arith, mul-le-mul_right {m = suc layer} {n = layers} (3 * size) k, w)
 
 some_mapped : {A B C : Type 0} (f : A → B) (o : Option A) (b : B) → option_map f o ≡ Some b → ((a : A) → o ≡ Some a → f a ≡ b → C) → C
 some_mapped f None b e k = absurd (none-some b e)

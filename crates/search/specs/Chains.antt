@@ -1,5 +1,5 @@
 -- The rows with a label, chained by station.
-use Rattle.std.specs.Prelude.{◌≡◌, ℕ, suc, ◌<◌, ◌≤◌, true, List, length, replicate, is_some, None, Option, IfSome, slice_index_or}
+use Rattle.std.specs.Prelude.{◌≡◌, ℕ, suc, ◌-◌, ◌<◌, ◌≤◌, true, List, length, replicate, is_some, None, Option, IfSome, slice_index_or}
 use Rattle.book.specs.Limits.{last_station}
 use Rattle.book.specs.Rules.{stop_at}
 use Rattle.book.specs.declared.rows.StopRow.{StopRow}
@@ -7,8 +7,10 @@ use Rattle.connection.specs.declared.label.Label.{Label}
 use Rattle.connection.specs.declared.ride.Shift.{Shift}
 use Rattle.std.specs.Option.{unwrap_or}
 use Rattle.search.specs.Shifts.{on}
+use Rattle.search.specs.Working.{label_in}
 use Rattle.search.specs.declared.by_shift.ByShift.{ByShift}
 use Rattle.search.specs.declared.chains.Chain.{Chain}
+use Rattle.search.specs.declared.record.WorkRecord.{WorkRecord}
 
 -- a row, or the end of the rows where there is none
 abbrev pub or_end : List StopRow → Option ℕ → ℕ
@@ -34,6 +36,10 @@ module _ {A : Type 0} (stops : List StopRow) (label : ℕ → Option (Label A)) 
 -- ---- the chains of a whole layer
 abbrev pub Linked : {A : Type 0} → List StopRow → (Shift → ℕ → Option (Label A)) → ByShift Chain → Type 0
 Linked stops label arrivals = (s : Shift) → Chained stops (label s) (on arrivals s).heads (on arrivals s).nexts
+
+-- the labels of the layer before the layer k, if there is one
+abbrev pub LinkedBefore : {A : Type 0} → List StopRow → List (WorkRecord A) → ℕ → ByShift Chain → Type 0
+LinkedBefore stops table k arrivals = 0 < k → Linked stops (label_in (length stops) table (k - 1)) arrivals
 
 -- ---- chains that end at once, whatever the stops
 abbrev pub no_chain : Chain

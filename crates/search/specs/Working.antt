@@ -6,7 +6,7 @@
 --     layer 1: | ..
 --
 -- The record holds the label of who is on board the run of that shift at that stop, after so many changes.
-use Rattle.std.specs.Prelude.{ℕ, zero, suc, ◌+◌, ◌*◌, ◌<◌, ◌≤◌, Bool, false, cond, ◌&&◌, ◌||◌, List, Some, None, Option, slice_index_or}
+use Rattle.std.specs.Prelude.{ℕ, zero, suc, ◌+◌, ◌*◌, ◌<◌, ◌≤◌, Bool, false, cond, ◌&&◌, ◌||◌, List, length, Some, None, Option, slice_index_or}
 use Rattle.tariff.specs.Meaning.{Meaning}
 use Rattle.tariff.specs.declared.step.Step.{Step}
 use Rattle.book.specs.declared.rows.TrainRow.{TrainRow}
@@ -55,6 +55,10 @@ layer_at size k = k * (3 * size)
 
 abbrev pub part_at : ℕ → ℕ → Shift → ℕ
 part_at size k s = layer_at size k + number s * size
+
+-- the table has room for the first k layers
+abbrev pub HasLayers : {A : Type 0} → ℕ → List (WorkRecord A) → ℕ → Type 0
+HasLayers size table k = layer_at size k ≤ length table
 
 module _ {A : Type 0} where
   abbrev pub label_at : List (WorkRecord A) → ℕ → Option (Label A)

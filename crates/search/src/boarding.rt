@@ -14,9 +14,9 @@ ghost use Rattle.connection.specs.Rides.{arrival, departure, may_alight, can_cat
 ghost use Rattle.connection.specs.Settled.{no_dearer, SettlesBoarding};
 ghost use Rattle.connection.specs.Ways.{Best};
 ghost use Rattle.search.specs.Changing.{changed, ChangesOn, Changes};
-ghost use Rattle.search.specs.Chains.{Linked};
+ghost use Rattle.search.specs.Chains.{Linked, LinkedBefore};
 ghost use Rattle.search.specs.Layers.{Trail, Filled};
-ghost use Rattle.search.specs.Working.{may_use, layer_at, place as place_of, label_in};
+ghost use Rattle.search.specs.Working.{may_use, place as place_of, label_in, HasLayers};
 
 use crate::chains::Arrivals;
 use crate::choosing::{cheaper, cheapest_of_shifts};
@@ -43,8 +43,8 @@ impl<P: Tariff> Inquiry<'_, P> {
         run: Run,
         i: usize,
     ) -> Option<Label<P::Total>>
-        requires within { layer_at (length self.now.stops.now) layer.number ≤ length work.now }
-        requires linked { 0 < layer.number → Linked self.now.stops.now (label_in (length self.now.stops.now) work.now (layer.number - 1)) arrivals.now }
+        requires within { HasLayers (length self.now.stops.now) work.now layer.number }
+        requires linked { LinkedBefore self.now.stops.now work.now layer.number arrivals.now }
         requires in_force { run.train < length self.now.trains.now }
         requires on_the_train { i < (train_row run.train self.now.trains.now).count }
         ensures settles { (runs : Pairs) → usable ≡ may_use runs self.now.query.now (train_row run.train self.now.trains.now) run.shift → Filled (P.Tariff.meaning self.now.tariff.now) runs self.now.query.now self.now.trains.now self.now.stops.now work.now layer.number → SettlesBoarding (P.Tariff.meaning self.now.tariff.now) (trains_in self.now.trains.now self.now.stops.now) runs self.now.query.now (Trail self.now.trains.now (length self.now.stops.now) work.now layer.number) layer.number run.train run.shift i result }
@@ -94,7 +94,7 @@ impl<P: Tariff> Inquiry<'_, P> {
         arrivals: &Arrivals,
         onward: Onward,
     ) -> Option<Label<P::Total>>
-        requires within { layer_at (length self.now.stops.now) layer.number + 3 * length self.now.stops.now ≤ length work.now }
+        requires within { HasLayers (length self.now.stops.now) work.now (layer.number + 1) }
         requires known { onward.station ≤ last_station }
         requires linked { Linked self.now.stops.now (label_in (length self.now.stops.now) work.now layer.number) arrivals.now }
         ensures best { Best (no_dearer (P.Tariff.meaning self.now.tariff.now)) (Changes (P.Tariff.meaning self.now.tariff.now) self.now.stops.now (label_in (length self.now.stops.now) work.now layer.number) onward.station onward.minute onward.board) result }
@@ -113,7 +113,7 @@ impl<P: Tariff> Inquiry<'_, P> {
         shift: Shift,
         onward: Onward,
     ) -> Option<Label<P::Total>>
-        requires within { layer_at (length self.now.stops.now) layer.number + 3 * length self.now.stops.now ≤ length work.now }
+        requires within { HasLayers (length self.now.stops.now) work.now (layer.number + 1) }
         requires known { onward.station ≤ last_station }
         requires linked { Linked self.now.stops.now (label_in (length self.now.stops.now) work.now layer.number) arrivals.now }
         ensures best { Best (no_dearer (P.Tariff.meaning self.now.tariff.now)) (ChangesOn (P.Tariff.meaning self.now.tariff.now) self.now.stops.now (label_in (length self.now.stops.now) work.now layer.number) onward.station onward.minute onward.board shift) result }

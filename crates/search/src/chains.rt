@@ -4,7 +4,7 @@
 //     nexts: row 2 -> row 4, ..                               the next row of the same station with one
 ghost use Rattle.std.specs.Prelude.{◌≡◌, ◌+◌, ◌*◌, ◌≤◌, length};
 ghost use Rattle.search.specs.Chains.{Chained, Linked, no_chain, no_arrivals};
-ghost use Rattle.search.specs.Working.{layer_at, label_in};
+ghost use Rattle.search.specs.Working.{label_in, HasLayers};
 
 use crate::by_shift::ByShift;
 use crate::inquiry::Inquiry;
@@ -50,7 +50,7 @@ pub fn no_arrivals() -> Arrivals
 impl<P: Tariff> Inquiry<'_, P> {
     // The labels of that layer.
     pub fn arrivals(&self, work: &[WorkRecord<P::Total>], layer: Layer) -> Arrivals
-        requires within { layer_at (length self.now.stops.now) layer.number + 3 * length self.now.stops.now ≤ length work.now }
+        requires within { HasLayers (length self.now.stops.now) work.now (layer.number + 1) }
         ensures { Linked self.now.stops.now (label_in (length self.now.stops.now) work.now layer.number) result }
     {
         ByShift::each(|shift| self.chained(work, layer, shift))
@@ -58,7 +58,7 @@ impl<P: Tariff> Inquiry<'_, P> {
 
     // The labels of its part for that shift.
     fn chained(&self, work: &[WorkRecord<P::Total>], layer: Layer, shift: Shift) -> Chain
-        requires within { layer_at (length self.now.stops.now) layer.number + 3 * length self.now.stops.now ≤ length work.now }
+        requires within { HasLayers (length self.now.stops.now) work.now (layer.number + 1) }
         ensures { Chained self.now.stops.now (label_in (length self.now.stops.now) work.now layer.number shift) result.heads result.nexts }
     {
         let at = self.part_at(layer, shift);

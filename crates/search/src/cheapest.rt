@@ -3,7 +3,7 @@ ghost use Rattle.std.specs.Prelude.{◌≡◌, ◌+◌, ◌≤◌, length, repli
 ghost use Rattle.book.specs.Trains.{trains_in};
 ghost use Rattle.search.specs.Answers.{FoundOrNone, rides_left};
 ghost use Rattle.search.specs.Records.{blank};
-ghost use Rattle.search.specs.Working.{layer_at};
+ghost use Rattle.search.specs.Working.{HasLayers};
 
 use crate::inquiry::Inquiry;
 use crate::layer::Layer;
@@ -22,7 +22,7 @@ impl<P: Tariff> Inquiry<'_, P> {
         work: &mut [WorkRecord<P::Total>],
     ) -> Result<(P::Total, usize), Refusal>
         requires space { self.now.query.now.changes + 1 ≤ length rides.old }
-        requires within { layer_at (length self.now.stops.now) (self.now.query.now.changes + 1) ≤ length work.old }
+        requires within { HasLayers (length self.now.stops.now) work.old (self.now.query.now.changes + 1) }
         ensures found { FoundOrNone (P.Tariff.meaning self.now.tariff.now) (C.Calendar.runs calendar.now) (trains_in self.now.trains.now self.now.stops.now) self.now.query.now result rides.new }
         ensures rides { rides.new ≡ rides_left result rides.old rides.new }
     {

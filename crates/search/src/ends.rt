@@ -2,7 +2,7 @@
 ghost use Rattle.std.specs.Prelude.{◌≡◌, ◌+◌, ◌*◌, ◌<◌, ◌≤◌, length};
 ghost use Rattle.connection.specs.Ways.{Among, Best};
 ghost use Rattle.search.specs.Ends.{ends_no_dearer, end_at, EndsIn, Ends};
-ghost use Rattle.search.specs.Working.{layer_at};
+ghost use Rattle.search.specs.Working.{HasLayers};
 
 use crate::choosing::{Priced, cheaper, cheapest_of_shifts};
 use crate::inquiry::Inquiry;
@@ -33,7 +33,7 @@ impl<P: Tariff> Inquiry<'_, P> {
     // The cheapest of the first layers, if one can alight at the destination at all.
     pub fn best_end(&self, work: &[WorkRecord<P::Total>], layers: usize) -> Option<End<P::Total>>
         requires shallow { layers ≤ 16 }
-        requires within { layer_at (length self.now.stops.now) layers ≤ length work.now }
+        requires within { HasLayers (length self.now.stops.now) work.now layers }
         ensures best { Best (ends_no_dearer (P.Tariff.meaning self.now.tariff.now)) (Ends self.now.stops.now work.now layers self.now.query.now.destination) result }
     {
         let mut best = None;
@@ -54,7 +54,7 @@ impl<P: Tariff> Inquiry<'_, P> {
         row: usize,
     ) -> Option<End<P::Total>>
         requires shallow { layers ≤ 16 }
-        requires within { layer_at (length self.now.stops.now) layers ≤ length work.now }
+        requires within { HasLayers (length self.now.stops.now) work.now layers }
         requires inside { row < length self.now.stops.now }
         ensures best { Best (ends_no_dearer (P.Tariff.meaning self.now.tariff.now)) (Among layers (EndsIn (length self.now.stops.now) work.now row)) result }
     {
@@ -73,7 +73,7 @@ impl<P: Tariff> Inquiry<'_, P> {
         layer: Layer,
         row: usize,
     ) -> Option<End<P::Total>>
-        requires within { layer_at (length self.now.stops.now) layer.number + 3 * length self.now.stops.now ≤ length work.now }
+        requires within { HasLayers (length self.now.stops.now) work.now (layer.number + 1) }
         requires inside { row < length self.now.stops.now }
         ensures best { Best (ends_no_dearer (P.Tariff.meaning self.now.tariff.now)) (EndsIn (length self.now.stops.now) work.now row layer.number) result }
     {
@@ -88,7 +88,7 @@ impl<P: Tariff> Inquiry<'_, P> {
         shift: Shift,
         row: usize,
     ) -> Option<End<P::Total>>
-        requires within { layer_at (length self.now.stops.now) layer.number + 3 * length self.now.stops.now ≤ length work.now }
+        requires within { HasLayers (length self.now.stops.now) work.now (layer.number + 1) }
         requires inside { row < length self.now.stops.now }
         ensures { result ≡ end_at (length self.now.stops.now) work.now layer.number shift row }
     {

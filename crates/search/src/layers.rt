@@ -1,9 +1,9 @@
 // The layers of labels, one for each number of changes.
 ghost use Rattle.std.specs.Prelude.{◌+◌, ◌-◌, ◌*◌, ◌<◌, ◌≤◌, length};
 ghost use Rattle.calendar.specs.Pairs.{Pairs};
-ghost use Rattle.search.specs.Chains.{Linked};
+ghost use Rattle.search.specs.Chains.{LinkedBefore};
 ghost use Rattle.search.specs.Layers.{Filled, Fills, ShiftAsked, Asked, AllLayers};
-ghost use Rattle.search.specs.Working.{place, layer_at, label_in};
+ghost use Rattle.search.specs.Working.{place, HasLayers};
 
 use crate::asking::Usable;
 use crate::chains::{Arrivals, no_arrivals};
@@ -17,7 +17,7 @@ use tariff::Tariff;
 impl<P: Tariff> Inquiry<'_, P> {
     // Writes layer after layer, until all changes are used up or a layer has no label, and tells how many layers there are.
     pub fn fill_layers(&self, work: &mut [WorkRecord<P::Total>], usable: &Usable) -> usize
-        requires within { layer_at (length self.now.stops.now) (self.now.query.now.changes + 1) ≤ length work.old }
+        requires within { HasLayers (length self.now.stops.now) work.old (self.now.query.now.changes + 1) }
         ensures few { result ≤ self.now.query.now.changes + 1 }
         ensures all { AllLayers self.now.trains.now (length self.now.stops.now) work.new self.now.query.now result }
         ensures filled { (runs : Pairs) → Asked self.now.query.now self.now.trains.now usable.now runs → Filled (P.Tariff.meaning self.now.tariff.now) runs self.now.query.now self.now.trains.now self.now.stops.now work.new result }
@@ -42,8 +42,8 @@ impl<P: Tariff> Inquiry<'_, P> {
         arrivals: &Arrivals,
         usable: &Usable,
     ) -> bool
-        requires within { layer_at (length self.now.stops.now) (layer.number + 1) ≤ length work.old }
-        requires linked { 0 < layer.number → Linked self.now.stops.now (label_in (length self.now.stops.now) work.old (layer.number - 1)) arrivals.now }
+        requires within { HasLayers (length self.now.stops.now) work.old (layer.number + 1) }
+        requires linked { LinkedBefore self.now.stops.now work.old layer.number arrivals.now }
         ensures { Fills (P.Tariff.meaning self.now.tariff.now) self.now.query.now self.now.trains.now self.now.stops.now layer.number (Asked self.now.query.now self.now.trains.now usable.now) work.old work.new 0 (3 * length self.now.stops.now) result }
     {
         let mut found = false;
@@ -62,8 +62,8 @@ impl<P: Tariff> Inquiry<'_, P> {
         usable: &[bool],
         shift: Shift,
     ) -> bool
-        requires within { layer_at (length self.now.stops.now) (layer.number + 1) ≤ length work.old }
-        requires linked { 0 < layer.number → Linked self.now.stops.now (label_in (length self.now.stops.now) work.old (layer.number - 1)) arrivals.now }
+        requires within { HasLayers (length self.now.stops.now) work.old (layer.number + 1) }
+        requires linked { LinkedBefore self.now.stops.now work.old layer.number arrivals.now }
         requires each { length self.now.trains.now ≤ length usable.now }
         ensures { Fills (P.Tariff.meaning self.now.tariff.now) self.now.query.now self.now.trains.now self.now.stops.now layer.number (ShiftAsked self.now.query.now self.now.trains.now shift usable.now) work.old work.new (place (length self.now.stops.now) shift 0) (place (length self.now.stops.now) shift (length self.now.stops.now)) result }
     {

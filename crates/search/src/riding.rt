@@ -4,9 +4,9 @@ ghost use Rattle.book.specs.Answers.{train_row};
 ghost use Rattle.connection.specs.Choosing.{mapped, cheaper as cheaper_of};
 ghost use Rattle.connection.specs.Prices.{hop as hop_of, stand as stand_of};
 ghost use Rattle.connection.specs.Settled.{extended, no_dearer};
-ghost use Rattle.search.specs.Chains.{Linked};
+ghost use Rattle.search.specs.Chains.{LinkedBefore};
 ghost use Rattle.search.specs.Layers.{Fills, RunAsked, run_begins, run_ends};
-ghost use Rattle.search.specs.Working.{layer_at, label_at as label_of_record, label_in, costs_no_more, beaten, unless_beaten};
+ghost use Rattle.search.specs.Working.{layer_at, label_at as label_of_record, costs_no_more, beaten, unless_beaten, HasLayers};
 
 use crate::chains::Arrivals;
 use crate::choosing::{cheaper, with_step};
@@ -30,8 +30,8 @@ impl<P: Tariff> Inquiry<'_, P> {
         usable: bool,
         run: Run,
     ) -> bool
-        requires within { layer_at (length self.now.stops.now) (layer.number + 1) ≤ length work.old }
-        requires linked { 0 < layer.number → Linked self.now.stops.now (label_in (length self.now.stops.now) work.old (layer.number - 1)) arrivals.now }
+        requires within { HasLayers (length self.now.stops.now) work.old (layer.number + 1) }
+        requires linked { LinkedBefore self.now.stops.now work.old layer.number arrivals.now }
         requires in_force { run.train < length self.now.trains.now }
         ensures { Fills (P.Tariff.meaning self.now.tariff.now) self.now.query.now self.now.trains.now self.now.stops.now layer.number (RunAsked self.now.query.now (train_row run.train self.now.trains.now) run.shift usable) work.old work.new (run_begins self.now.trains.now (length self.now.stops.now) run.train run.shift) (run_ends self.now.trains.now (length self.now.stops.now) run.train run.shift) result }
     {
@@ -80,7 +80,7 @@ impl<P: Tariff> Inquiry<'_, P> {
         place: usize,
         label: Option<Label<P::Total>>,
     ) -> Option<Label<P::Total>>
-        requires within { layer_at (length self.now.stops.now) layer.number ≤ length work.now }
+        requires within { HasLayers (length self.now.stops.now) work.now layer.number }
         requires placed { place < 3 * length self.now.stops.now }
         ensures { result ≡ unless_beaten (P.Tariff.meaning self.now.tariff.now) (length self.now.stops.now) work.now place layer.number label }
     {
@@ -99,7 +99,7 @@ impl<P: Tariff> Inquiry<'_, P> {
         place: usize,
         total: P::Total,
     ) -> bool
-        requires within { layer_at (length self.now.stops.now) layer.number ≤ length work.now }
+        requires within { HasLayers (length self.now.stops.now) work.now layer.number }
         requires placed { place < 3 * length self.now.stops.now }
         ensures { result ≡ beaten (P.Tariff.meaning self.now.tariff.now) (length self.now.stops.now) work.now place layer.number total }
     {

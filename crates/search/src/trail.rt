@@ -3,7 +3,7 @@ ghost use Rattle.std.specs.Prelude.{◌≡◌, ℕ, suc, ◌+◌, ◌*◌, ◌<�
 ghost use Rattle.book.specs.Answers.{train_row};
 ghost use Rattle.connection.specs.declared.ride.Ride.{Ride as ARide};
 ghost use Rattle.search.specs.Layers.{Spot, Trail, row_of};
-ghost use Rattle.search.specs.Working.{layer_at, place as place_of};
+ghost use Rattle.search.specs.Working.{place as place_of, HasLayers};
 
 use crate::inquiry::Inquiry;
 use crate::layer::Layer;
@@ -20,7 +20,7 @@ impl<P: Tariff> Inquiry<'_, P> {
         place: usize,
         rides: &mut [Ride],
     )
-        requires within { layer_at (length self.now.stops.now) (layer.number + 1) ≤ length work.now }
+        requires within { HasLayers (length self.now.stops.now) work.now (layer.number + 1) }
         requires room { layer.number < length rides.old }
         requires told { (whole : List ARide) × Trail self.now.trains.now (length self.now.stops.now) work.now (suc layer.number) place whole }
         ensures written { (whole : List ARide) → Trail self.now.trains.now (length self.now.stops.now) work.now (suc layer.number) place whole → rides.new ≡ whole ++ drop (layer.number + 1) rides.old }

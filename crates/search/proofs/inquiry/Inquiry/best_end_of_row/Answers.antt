@@ -1,15 +1,15 @@
-use Rattle.std.proofs.Common.{◌≡◌, ℕ, length, subst, arith}
+use Rattle.std.proofs.Common.{◌≡◌, ℕ, ◌+◌, length, subst, arith}
 use Rattle.connection.specs.Ways.{Among, Best}
 use Rattle.search.specs.Ends.{ends_no_dearer, EndsIn}
 use Rattle.search.specs.declared.ends.End.{End}
-use Rattle.search.proofs.BestEnd.{layer_within}
 use Rattle.search.proofs.Chosen.{chosen_more}
+use Rattle.search.proofs.Layering.{layers_below}
 use Rattle.search.proofs.inquiry.Inquiry.best_end_of_row.Goals as goal
 
 pub best_end_in-end-requires : goal.best_end_in-end-requires
 best_end_in-end-requires g c =
     let a = c.args in
-    record { within = layer_within (length a.self.now.stops.now) c.loop-number.number a.layers (length a.work.now) (omega arith) c.requires.within; inside = c.requires.inside }
+    record { within = omega (arith, layers_below (length a.self.now.stops.now) (c.loop-number.number + 1) a.layers (omega arith), c.requires.within); inside = c.requires.inside }
 
 pub loop-number-preserved : goal.loop-number-preserved
 loop-number-preserved g c =
