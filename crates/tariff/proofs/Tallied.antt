@@ -29,6 +29,9 @@ module _ {Cost By : Type 0} (c : Ghosts Cost By) (by : By) where
     pub taken : (next : Tally Cost By c) → next.cost ≡ c.charges.with_step by t.cost s → next.steps ≡ t.steps + 1 → next ≡ with_step c by t s
     taken next cost steps = same next (with_step c by t s) (cost ∙ sym dearer) (steps ∙ sym longer)
 
+  pub with_full : (t : Tally Cost By c) (s : Step) → most_steps ≤ t.steps → with_step c by t s ≡ t
+  with_full t s limit = search rules
+
   -- a number that a cost shows follows the steps of a journey that is within the limit
   module _ (shown : Cost → ℕ) (more : ℕ → Step → ℕ) (one : (x : Cost) (s : Step) → shown (c.charges.with_step by x s) ≡ more (shown x) s) where
     from_here : (steps : List Step) (t : Tally Cost By c) → t.steps + length steps ≤ most_steps → shown (fold (with_step c by) t steps).cost ≡ fold more (shown t.cost) steps
