@@ -22,7 +22,7 @@ use Rattle.search.specs.Working.{Askable}
 use Rattle.search.specs.declared.record.WorkRecord.{WorkRecord}
 use Rattle.search.specs.declared.refusal.Refusal.{Refusal}
 use Rattle.search.specs.declared.refusal.Refusal.TheVariants.{Book, BadQuery, SameStation, ShortRides, ShortWork, NoConnection}
-use Rattle.search.proofs.BestChange.{some_same}
+use Rattle.std.proofs.lemmas.Option.{same_Some}
 use Rattle.search.proofs.Prefix.{in_order, same_trains, long_stops, stops_counted}
 use Rattle.search.proofs.RowsAreTrains.{keep_the_rules, timely}
 
@@ -135,7 +135,7 @@ module _ {Total : Type 0} (m : Meaning Total) (runs : Pairs) (q : Query) (ride_r
     by_holding : (h : Bool) → holds b.trains b.stops trains stops ≡ h → (ts : List Train) → cond h (Some (listed b.trains trains stops)) None ≡ Some ts → Guarantee m runs ts q ride_room work_room r rides
     by_holding false f ts e = cc
     by_holding true f ts e =
-        let same = some_same (listed b.trains trains stops) ts e in
+        let same = same_Some (listed b.trains trains stops) ts e in
         subst (λ (l : List Train). Guarantee m runs l q ride_room work_room r rides) same
         (of_trains (listed b.trains trains stops) (query_fault (listed b.trains trains stops) q ride_room work_room) refl r
         (subst (λ (o : Option Refusal). Answered o (λ found. FoundOrNone m runs (listed b.trains trains stops) q found rides) r) (after_check b trains stops q ride_room work_room f) answer))

@@ -1,10 +1,8 @@
 // Which runs a query may use. The calendar is asked here, once for each train and shift.
-ghost use Rattle.std.specs.Prelude.{◌≡◌, ℕ, ◌<◌, false, length, slice_index_or};
-ghost use Rattle.book.specs.Answers.{train_row};
+ghost use Rattle.std.specs.Prelude.{◌≡◌};
 ghost use Rattle.connection.specs.Clock.{sets_out};
 ghost use Rattle.connection.specs.Rides.{does_run};
 ghost use Rattle.search.specs.Layers.{Asked, ShiftAsked};
-ghost use Rattle.search.specs.Working.{may_use};
 
 use crate::by_shift::ByShift;
 use crate::inquiry::Inquiry;
@@ -28,7 +26,7 @@ impl<P> Inquiry<'_, P> {
 
     // For each train whether the query may use its run of that shift.
     fn usable_on<C: Calendar>(&self, calendar: &C, shift: Shift) -> [bool; 512]
-        ensures each { (n : ℕ) → n < length self.now.trains.now → slice_index_or result n false ≡ may_use (C.Calendar.runs calendar.now) self.now.query.now (train_row n self.now.trains.now) shift }
+        ensures { ShiftAsked self.now.query.now self.now.trains.now shift result (C.Calendar.runs calendar.now) }
     {
         let mut usable = [false; 512];
         for (n, train) in self.trains.iter().enumerate() {

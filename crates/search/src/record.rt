@@ -6,7 +6,7 @@ use connection::label::Label;
 
 // A total of whichever tariff the search brings, or none, and from where it came: the stop where the run was boarded, and
 // the record with a change less from which one changed.
-#[derive(Clone, Copy, PartialEq)]
+#[derive(Clone, Copy)]
 pub struct WorkRecord<T> {
     pub total: Option<T>,
     pub board: u8,

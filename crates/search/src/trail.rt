@@ -72,12 +72,20 @@ impl<P: Tariff> Inquiry<'_, P> {
         ensures within { result.1 < (train_row result.0 self.now.trains.now).count }
         ensures is { row ≡ row_of self.now.trains.now result.0 result.1 }
     {
-        for (n, train) in self.trains.iter().enumerate() {
-            let first = train.first as usize;
-            if first <= row && row < first + train.count as usize {
-                return (n as u16, (row - first) as u8);
-            }
-        }
-        unreachable()
+        let train = self.train_at(row);
+        let first = self.trains[train].first as usize;
+        (train as u16, (row - first) as u8)
+    }
+
+    // The trains lie one after another, so it is the last that does not begin behind the row.
+    fn train_at(&self, row: usize) -> usize
+        requires inside { row < length self.now.stops.now }
+        ensures listed { result < length self.now.trains.now }
+        ensures begun { (train_row result self.now.trains.now).first ≤ row }
+        ensures not_over { row < (train_row result self.now.trains.now).first + (train_row result self.now.trains.now).count }
+    {
+        self.trains
+            .partition_point(|train| train.first as usize <= row)
+            - 1
     }
 }
