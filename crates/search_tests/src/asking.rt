@@ -90,65 +90,65 @@ pub fn same_day(train: u16, board: u8, alight: u8) -> Ride {
     ride(train, Shift::SameDay, board, alight)
 }
 
-// The total and the count of rides, or the number of the refusal.
-fn ask_under<P: Tariff, C: Calendar>(
+// The whole answer under the tariff, with the total's numbers.
+fn ask_under<P: Tariff, C: Calendar, F: Fn(P::Total) -> Total>(
     timetable: &Timetable,
     calendar: &C,
     tariff: &P,
     query: Query,
-    rides: &mut [Ride],
     work: &mut [WorkRecord<P::Total>],
-) -> Result<(P::Total, usize), u8> {
-    match search(
+    numbers: F,
+) -> Answer
+    requires { F.IsAlwaysCallable numbers }
+{
+    let mut rides = [NO_RIDE; 4];
+    let found = search(
         &timetable.book,
         &timetable.trains,
         &timetable.stops,
         tariff,
         calendar,
         query,
-        rides,
+        &mut rides,
         work,
-    ) {
-        Ok(found) => Ok(found),
-        Err(refusal) => Err(refusal.number()),
-    }
-}
-
-// The same with the total's numbers, under one of the tariffs.
-fn numbers_found<C: Calendar>(
-    timetable: &Timetable,
-    calendar: &C,
-    by: By,
-    query: Query,
-    rides: &mut [Ride],
-) -> Result<(Total, usize), u8> {
-    match by {
-        By::Minutes => {
-            let Ok(five) = Minutes::new(5) else {
-                return Err(22);
-            };
-            let mut work = [WorkRecord::blank(); WORK];
-            let (total, count) = ask_under(timetable, calendar, &five, query, rides, &mut work)?;
-            Ok((Total::Minutes(total.minutes()), count))
-        }
-        By::Fares => {
-            let mut work = [WorkRecord::blank(); WORK];
-            let (total, count) = ask_under(timetable, calendar, &Fares, query, rides, &mut work)?;
-            Ok((Total::Fares(total.fare(), total.minutes()), count))
-        }
-        By::Waits => {
-            let mut work = [WorkRecord::blank(); WORK];
-            let (total, count) = ask_under(timetable, calendar, &Waits, query, rides, &mut work)?;
-            Ok((Total::Waits(total.longest()), count))
-        }
+    );
+    Answer {
+        found: found
+            .map(|(total, count)| (numbers(total), count))
+            .map_err(|refusal| refusal.number()),
+        rides,
     }
 }
 
 pub fn ask_on<C: Calendar>(timetable: &Timetable, calendar: &C, by: By, query: Query) -> Answer {
-    let mut rides = [NO_RIDE; 4];
-    Answer {
-        found: numbers_found(timetable, calendar, by, query, &mut rides),
-        rides,
+    match by {
+        By::Minutes => match Minutes::new(5) {
+            Ok(five) => ask_under(
+                timetable,
+                calendar,
+                &five,
+                query,
+                &mut [WorkRecord::blank(); WORK],
+                |total| Total::Minutes(total.minutes()),
+            ),
+            Err(refusal) => refused(refusal.number()),
+        },
+        By::Fares => ask_under(
+            timetable,
+            calendar,
+            &Fares,
+            query,
+            &mut [WorkRecord::blank(); WORK],
+            |total| Total::Fares(total.fare(), total.minutes()),
+        ),
+        By::Waits => ask_under(
+            timetable,
+            calendar,
+            &Waits,
+            query,
+            &mut [WorkRecord::blank(); WORK],
+            |total| Total::Waits(total.longest()),
+        ),
     }
 }
 

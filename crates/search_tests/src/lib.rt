@@ -8,8 +8,6 @@ mod edges;
 #[cfg(test)]
 mod refusing;
 #[cfg(test)]
-mod sure;
-#[cfg(test)]
 mod timetable;
 #[cfg(test)]
 mod travelling;

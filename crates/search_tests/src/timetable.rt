@@ -1,8 +1,7 @@
 // Timetables that the tests share, and how they are filled in.
-use crate::sure::sure;
-use book::refusal::Refused;
+use book::refusal::{Refusal, Refused};
 use book::rows::{Departure, StopRow, TrainRow};
-use book::state::Book;
+use book::state::{Book, Entry};
 use std::test::*;
 
 pub const TRAINS: usize = 5;
@@ -45,28 +44,30 @@ pub fn o_clock(hour: u8, minute: u8) -> u16 {
     hour as u16 * 60 + minute as u16
 }
 
-// The book with one train more, or as it was, and whether the train was refused.
+// Why a train was refused, once its entry is abandoned.
+fn reason(refused: Refused<Entry>) -> Refusal {
+    let Refused { back, refusal } = refused;
+    let _ = back.abandon();
+    refusal
+}
+
+// The book with one train more, or why the train was refused.
 fn enter(
     book: Book,
     trains: &mut [TrainRow],
     stops: &mut [StopRow],
     train: TrainRow,
     rows: &[StopRow],
-) -> (Book, bool) {
-    let mut entry = match book.begin(trains, stops, train.number, train.code, train.features) {
-        Ok(entry) => entry,
-        Err(Refused { back, refusal: _ }) => return (back, true),
-    };
+) -> Result<Book, Refusal> {
+    let mut entry = book
+        .begin(trains, stops, train.number, train.code, train.features)
+        .map_err(|Refused { back: _, refusal }| refusal)?;
     for row in rows {
-        entry = match entry.stop(trains, stops, row.station, row.arrive, row.depart) {
-            Ok(entry) => entry,
-            Err(Refused { back, refusal: _ }) => return (back.abandon(), true),
-        };
+        entry = entry
+            .stop(trains, stops, row.station, row.arrive, row.depart)
+            .map_err(reason)?;
     }
-    match entry.finish(trains, stops) {
-        Ok(book) => (book, false),
-        Err(Refused { back, refusal: _ }) => (back.abandon(), true),
-    }
+    entry.finish(trains, stops).map_err(reason)
 }
 
 impl Timetable {
@@ -98,8 +99,7 @@ impl Timetable {
             first: 0,
             count: 0,
         };
-        let (book, refused) = enter(book, &mut trains, &mut stops, train, rows);
-        sure(!refused, "a train was refused")?;
+        let book = enter(book, &mut trains, &mut stops, train, rows)?;
         Ok(Timetable {
             book,
             trains,
