@@ -1,5 +1,5 @@
 -- A total is its cost and its steps, and takes a step where there is room.
-use Rattle.std.specs.Prelude.{◌≡◌, ℕ, ◌+◌, ◌*◌, ◌<◌, ◌≤◌, List, [], ◌∷◌, length, fold, refl}
+use Rattle.std.specs.Prelude.{◌≡◌, ℕ, ◌+◌, ◌*◌, ◌<◌, ◌≤◌, List, length, fold}
 use mathlib.Core.HLevel.{is_prop→PathP}
 use Rattle.std.proofs.Math.Bridge.{le_prop}
 use Rattle.std.proofs.Common.{arith, rules, sym, ap, ◌∙◌}
@@ -9,6 +9,7 @@ use Rattle.tariff.specs.Tallies.{with_step, tallied}
 use Rattle.tariff.specs.declared.cost.Cost.{Ghosts}
 use Rattle.tariff.specs.declared.step.Step.{Step}
 use Rattle.tariff.specs.declared.tally.Tally.{Tally}
+use Rattle.tariff.proofs.Followed.{follows}
 
 pub same : {Cost By : Type 0} {c : Ghosts Cost By} (a b : Tally Cost By c) → a.cost ≡ b.cost → a.steps ≡ b.steps → a ≡ b
 same {c = c} a b cost steps i = record {
@@ -34,12 +35,6 @@ module _ {Cost By : Type 0} (c : Ghosts Cost By) (by : By) where
 
   -- a number that a cost shows follows the steps of a journey that is within the limit
   module _ (shown : Cost → ℕ) (more : ℕ → Step → ℕ) (one : (x : Cost) (s : Step) → shown (c.charges.with_step by x s) ≡ more (shown x) s) where
-    from_here : (steps : List Step) (t : Tally Cost By c) → t.steps + length steps ≤ most_steps → shown (fold (with_step c by) t steps).cost ≡ fold more (shown t.cost) steps
-    from_here [] t h = refl
-    from_here (s ∷ steps) t h =
-        let room : t.steps < most_steps = omega arith in
-        let next = longer t s room in
-        from_here steps (with_step c by t s) (omega arith) ∙ ap (λ n. fold more n steps) (ap shown (dearer t s room) ∙ one t.cost s)
-
-    pub follows : (steps : List Step) → length steps ≤ most_steps → shown (total_of (tallied c by) steps).cost ≡ fold more (shown c.charges.nothing) steps
-    follows steps short = from_here steps _ (omega arith)
+    pub shown_follows : (steps : List Step) → length steps ≤ most_steps → shown (total_of (tallied c by) steps).cost ≡ fold more (shown c.charges.nothing) steps
+    shown_follows steps short =
+        follows (tallied c by) longer (λ t. shown t.cost) more (λ t s room. ap shown (dearer t s room) ∙ one t.cost s) steps (tallied c by).empty (omega arith)
