@@ -1,7 +1,7 @@
 // Timetables that the tests share, and how they are filled in.
-use book::refusal::{Refusal, Refused};
+use book::refusal::Refused;
 use book::rows::{Departure, StopRow, TrainRow};
-use book::state::{Book, Entry};
+use book::state::Book;
 use std::test::*;
 
 pub const TRAINS: usize = 5;
@@ -16,58 +16,31 @@ pub struct Timetable {
     pub stops: [StopRow; STOPS],
 }
 
-pub fn leaves(station: u16, minute: u16, fare: u16) -> StopRow {
-    StopRow {
-        station,
-        arrive: None,
-        depart: Some(Departure { minute, fare }),
-    }
-}
-
-pub fn passes(station: u16, arrive: u16, minute: u16, fare: u16) -> StopRow {
-    StopRow {
-        station,
-        arrive: Some(arrive),
-        depart: Some(Departure { minute, fare }),
-    }
-}
-
-pub fn ends(station: u16, minute: u16) -> StopRow {
-    StopRow {
-        station,
-        arrive: Some(minute),
-        depart: None,
-    }
+// A departure at the minute, for a fare in cents.
+pub fn at(minute: u16, fare: u16) -> Departure {
+    Departure { minute, fare }
 }
 
 pub fn o_clock(hour: u8, minute: u8) -> u16 {
     hour as u16 * 60 + minute as u16
 }
 
-// Why a train was refused, once its entry is abandoned.
-fn reason(refused: Refused<Entry>) -> Refusal {
-    let Refused { back, refusal } = refused;
-    let _ = back.abandon();
-    refusal
-}
-
-// The book with one train more, or why the train was refused.
+// The book with one train more, or as it was and why. The book's own tests enter trains likewise; a function for both would
+// be one of the book's.
 fn enter(
     book: Book,
     trains: &mut [TrainRow],
     stops: &mut [StopRow],
     train: TrainRow,
     rows: &[StopRow],
-) -> Result<Book, Refusal> {
-    let mut entry = book
-        .begin(trains, stops, train.number, train.code, train.features)
-        .map_err(|Refused { back: _, refusal }| refusal)?;
+) -> Result<Book, Refused<Book>> {
+    let mut entry = book.begin(trains, stops, train.number, train.code, train.features)?;
     for row in rows {
         entry = entry
             .stop(trains, stops, row.station, row.arrive, row.depart)
-            .map_err(reason)?;
+            .map_err(Refused::abandoned)?;
     }
-    entry.finish(trains, stops).map_err(reason)
+    entry.finish(trains, stops).map_err(Refused::abandoned)
 }
 
 impl Timetable {
@@ -99,7 +72,8 @@ impl Timetable {
             first: 0,
             count: 0,
         };
-        let book = enter(book, &mut trains, &mut stops, train, rows)?;
+        let book = enter(book, &mut trains, &mut stops, train, rows)
+            .map_err(|Refused { back: _, refusal }| refusal)?;
         Ok(Timetable {
             book,
             trains,
@@ -112,12 +86,12 @@ impl Timetable {
 // from Monday to Friday, and leaves when the caller says.
 pub fn small(departs_13: u16) -> Result<Timetable, Fail> {
     let eleven = [
-        leaves(1, o_clock(8, 0), 300),
-        passes(2, o_clock(8, 30), o_clock(8, 35), 200),
-        ends(3, o_clock(9, 10)),
+        StopRow::first(1, at(o_clock(8, 0), 300)),
+        StopRow::through(2, o_clock(8, 30), at(o_clock(8, 35), 200)),
+        StopRow::last(3, o_clock(9, 10)),
     ];
-    let twelve = [leaves(2, o_clock(8, 40), 100), ends(3, o_clock(9, 0))];
-    let thirteen = [leaves(3, departs_13, 250), ends(4, o_clock(9, 50))];
+    let twelve = [StopRow::first(2, at(o_clock(8, 40), 100)), StopRow::last(3, o_clock(9, 0))];
+    let thirteen = [StopRow::first(3, at(departs_13, 250)), StopRow::last(4, o_clock(9, 50))];
     Timetable::new()
         .with(11, 127, 1, &eleven)?
         .with(12, 127, 0, &twelve)?

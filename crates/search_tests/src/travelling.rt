@@ -1,6 +1,7 @@
 // Where a search easily goes astray.
 use crate::asking::{Answer, By, Total, ask, ask_on, found, on_tuesday, refused, ride, same_day};
-use crate::timetable::{Timetable, ends, leaves, o_clock, passes, small};
+use crate::timetable::{Timetable, at, o_clock, small};
+use book::rows::StopRow;
 use calendar::exceptions::Exceptions;
 use calendar::weekly::Weekly;
 use connection::query::Query;
@@ -9,11 +10,11 @@ use std::test::*;
 
 // From 1 to 2 there is a dear train, and a cheap way with a change. On to 4 there are two trains more.
 fn dear_or_with_a_change() -> Result<Timetable, Fail> {
-    let dear = [leaves(1, o_clock(8, 0), 300), ends(2, o_clock(8, 30))];
-    let cheap = [leaves(1, o_clock(8, 0), 50), ends(5, o_clock(8, 10))];
-    let cheap_too = [leaves(5, o_clock(8, 15), 50), ends(2, o_clock(8, 25))];
-    let on = [leaves(2, o_clock(8, 40), 100), ends(3, o_clock(9, 0))];
-    let last = [leaves(3, o_clock(9, 10), 10), ends(4, o_clock(9, 20))];
+    let dear = [StopRow::first(1, at(o_clock(8, 0), 300)), StopRow::last(2, o_clock(8, 30))];
+    let cheap = [StopRow::first(1, at(o_clock(8, 0), 50)), StopRow::last(5, o_clock(8, 10))];
+    let cheap_too = [StopRow::first(5, at(o_clock(8, 15), 50)), StopRow::last(2, o_clock(8, 25))];
+    let on = [StopRow::first(2, at(o_clock(8, 40), 100)), StopRow::last(3, o_clock(9, 0))];
+    let last = [StopRow::first(3, at(o_clock(9, 10), 10)), StopRow::last(4, o_clock(9, 20))];
     Timetable::new()
         .with(1, 127, 0, &dear)?
         .with(2, 127, 0, &cheap)?
@@ -43,7 +44,7 @@ fn a_dearer_arrival_is_kept_where_the_cheaper_one_has_used_up_the_changes(
 
 // On a Tuesday at 00:10, by a train with that code that leaves at 24:30.
 fn by_night_train(code: u8) -> Result<Answer, Fail> {
-    let rows = [leaves(6, o_clock(24, 30), 0), ends(7, o_clock(25, 0))];
+    let rows = [StopRow::first(6, at(o_clock(24, 30), 0)), StopRow::last(7, o_clock(25, 0))];
     let timetable = Timetable::new().with(14, code, 0, &rows)?;
     Ok(ask(&timetable, By::Minutes, on_tuesday(6, 7, 10, 2)))
 }
@@ -66,9 +67,9 @@ fn the_calendar_is_asked_about_the_day_on_which_a_train_sets_out(
 
 // Trains on Mondays and on Tuesdays to 7, and from there one with that code just after midnight.
 fn around_midnight(code: u8) -> Result<Timetable, Fail> {
-    let monday = [leaves(6, o_clock(24, 2), 0), ends(7, o_clock(24, 4))];
-    let tuesday = [leaves(6, o_clock(23, 55), 0), ends(7, o_clock(23, 59))];
-    let on = [leaves(7, 5, 0), ends(8, 20)];
+    let monday = [StopRow::first(6, at(o_clock(24, 2), 0)), StopRow::last(7, o_clock(24, 4))];
+    let tuesday = [StopRow::first(6, at(o_clock(23, 55), 0)), StopRow::last(7, o_clock(23, 59))];
+    let on = [StopRow::first(7, at(5, 0)), StopRow::last(8, 20)];
     Timetable::new()
         .with(1, 1, 0, &monday)?
         .with(2, 2, 0, &tuesday)?
@@ -93,13 +94,13 @@ fn one_changes_to_a_train_that_sets_out_a_day_later(rt: HostRuntime) -> Result<(
 
 // One waits half an hour at 2, unless one goes round by 5 in the meantime.
 fn half_an_hour_at_2() -> Result<Timetable, Fail> {
-    let to = [leaves(1, o_clock(8, 0), 0), ends(2, o_clock(8, 30))];
+    let to = [StopRow::first(1, at(o_clock(8, 0), 0)), StopRow::last(2, o_clock(8, 30))];
     let round = [
-        leaves(2, o_clock(8, 40), 0),
-        passes(5, o_clock(8, 44), o_clock(8, 46), 0),
-        ends(2, o_clock(8, 50)),
+        StopRow::first(2, at(o_clock(8, 40), 0)),
+        StopRow::through(5, o_clock(8, 44), at(o_clock(8, 46), 0)),
+        StopRow::last(2, o_clock(8, 50)),
     ];
-    let on = [leaves(2, o_clock(9, 0), 0), ends(3, o_clock(9, 30))];
+    let on = [StopRow::first(2, at(o_clock(9, 0), 0)), StopRow::last(3, o_clock(9, 30))];
     Timetable::new()
         .with(1, 127, 0, &to)?
         .with(2, 127, 0, &round)?
@@ -160,10 +161,10 @@ fn staying_on_board_is_no_change(rt: HostRuntime) -> Result<(), Fail> {
 #[test]
 fn one_boards_a_train_where_that_is_cheapest(rt: HostRuntime) -> Result<(), Fail> {
     let rows = [
-        leaves(1, o_clock(8, 0), 100),
-        passes(2, o_clock(8, 10), o_clock(8, 15), 100),
-        passes(1, o_clock(8, 20), o_clock(8, 25), 100),
-        ends(3, o_clock(8, 30)),
+        StopRow::first(1, at(o_clock(8, 0), 100)),
+        StopRow::through(2, o_clock(8, 10), at(o_clock(8, 15), 100)),
+        StopRow::through(1, o_clock(8, 20), at(o_clock(8, 25), 100)),
+        StopRow::last(3, o_clock(8, 30)),
     ];
     let timetable = Timetable::new().with(1, 127, 0, &rows)?;
     let asked = on_tuesday(1, 3, o_clock(7, 50), 0);
