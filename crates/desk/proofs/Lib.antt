@@ -1,5 +1,5 @@
+mod Called
 mod Cuts
 mod Digits
-mod Called
 mod Fortnights
 mod QueryLines

@@ -21,8 +21,7 @@ pub enum Call {
     },
 }
 
-// A step cannot be compared, and so a line cannot.
-#[derive(Clone, Copy)]
+#[derive(Clone, Copy, PartialEq, Eq, Debug)]
 pub enum Line {
     // nothing
     Blank,
