@@ -1,4 +1,6 @@
 // A train is entered: begun, filled in stop by stop, and finished or abandoned.
+//
+// A refused call gives back what it took, which `?` would let go of: so each call matches on whether it may be made.
 ghost use Rattle.std.specs.Prelude.{◌≡◌, List};
 ghost use Rattle.book.specs.Answers.{begin_answer, row, stop_answer, stop_rows, finish_answer, finish_rows, abandon_answer, abandoned};
 ghost use Rattle.book.specs.Histories.{Open, Closed, begun, stopped, finished, LeadsOn};

@@ -26,7 +26,7 @@ fn three(
     enter(book, trains, stops, 9, &last)
 }
 
-// The test that asks fails where it does not hold.
+// The test that asks fails where it does not hold. A line for each crate of tests, as std has no such check for helpers.
 fn sure(holds: bool, what: &'static str) -> Result<(), Fail> {
     if holds { Ok(()) } else { Err(Fail::new(what)) }
 }

@@ -1,7 +1,7 @@
 -- Why a search is refused ahead of looking for a connection: the earliest listed reason, and its number.
 use Rattle.std.specs.Prelude.{ℕ, ◌+◌, ◌*◌, Bool, true, false, ◌||◌, List, Some, None, Option, ◌==◌, nat_lt, codes}
 use Rattle.book.specs.Limits.{last_station}
-use Rattle.book.specs.Refusals.{number as book_number}
+use Rattle.book.specs.Refusals.{number as book_number, words as book_words}
 use Rattle.book.specs.Trains.{Train, all_stops, meaning}
 use Rattle.book.specs.declared.refusal.Refusal.TheVariants.{Damaged}
 use Rattle.book.specs.declared.rows.StopRow.{StopRow}
@@ -22,7 +22,7 @@ number NoConnection = 17
 
 -- the words for it
 abbrev pub words_of : Refusal → List ℕ
-words_of (Book r) = codes "the tables do not hold what the book says"
+words_of (Book r) = book_words r
 words_of BadQuery = codes "a station, the day, the minute or the change limit is out of bounds"
 words_of SameStation = codes "origin and destination are equal"
 words_of ShortRides = codes "the ride list is too short"

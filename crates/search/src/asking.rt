@@ -29,6 +29,7 @@ impl<P> Inquiry<'_, P> {
         ensures { ShiftAsked self.now.query.now self.now.trains.now shift result (C.Calendar.runs calendar.now) }
     {
         let mut usable = [false; 512];
+        // by number: what is written through a zip with the places is lost to the proof
         for (n, train) in self.trains.iter().enumerate() {
             usable[n] = self.query.offered_by(train.features)
                 && self.does_run(calendar, train.code, shift);

@@ -14,7 +14,7 @@ use crate::table::label_at;
 use connection::ride::Shift;
 use tariff::Tariff;
 
-// One part of a layer.
+// One part of a layer, in arrays and by row numbers, since the search allocates nothing.
 #[derive(Drop)]
 pub struct Chain {
     pub heads: [Option<u16>; 1024],
@@ -36,7 +36,7 @@ impl Chain {
     }
 }
 
-// Ahead of the first layer nobody has arrived anywhere.
+// Ahead of the first layer nobody has arrived anywhere. A layer knows that it is the first, so this need be no Option.
 pub fn no_arrivals() -> Arrivals
     ensures { result ≡ no_arrivals }
 {

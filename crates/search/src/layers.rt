@@ -14,6 +14,8 @@ use crate::run::Run;
 use connection::ride::Shift;
 use tariff::Tariff;
 
+// The work table, a layer and the arrivals ahead of it stay three parameters: what is known of them is known of a table
+// that is being written, and a struct that held it would have to promise in every clause that the rest stays.
 impl<P: Tariff> Inquiry<'_, P> {
     // Writes layer after layer, until all changes are used up or a layer has no label, and tells how many layers there are.
     pub fn fill_layers(&self, work: &mut [WorkRecord<P::Total>], usable: &Usable) -> usize

@@ -4,9 +4,12 @@
 //     // Ok((total, 2)): `rides` begins with the two rides of a cheapest connection
 //     // Err(Refusal::NoConnection): there is no connection
 //
-// It goes by layers of labels, one layer for each number of changes; a label is the cheapest total with which one can be
-// on board a run at a stop. `layers` fills them run by run (`riding`, `boarding`), `ends` takes the cheapest label at the
-// destination, and `trail` reads the rides back.
+// It works in what it is lent and allocates nothing, hence a list of rides with their number, and a table of plain records.
+//
+// An `inquiry` is a query that can be asked, over rows that hold a book, under a tariff. It is answered by layers of labels,
+// one layer for each number of changes; a label is the cheapest total with which one can be on board a run at a stop.
+// `layers` fills them run by run (`riding`, `boarding`), `ends` takes the cheapest label at the destination, and `trail`
+// reads the rides back.
 #![tactic(auto)]
 
 ghost use Rattle.std.specs.Prelude.{◌≡◌, List, length};

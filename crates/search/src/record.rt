@@ -5,7 +5,8 @@ ghost use Rattle.search.specs.Records.{blank, label_of, record_of};
 use connection::label::Label;
 
 // A total of whichever tariff the search brings, or none, and from where it came: the stop where the run was boarded, and
-// the record with a change less from which one changed.
+// the record with a change less from which one changed. The numbers are plain and not of the total, as a caller who fills a
+// table with blank records writes them too.
 #[derive(Clone, Copy)]
 pub struct WorkRecord<T> {
     pub total: Option<T>,

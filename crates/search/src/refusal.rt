@@ -54,7 +54,7 @@ impl fmt::Display for Refusal {
 
     fn fmt<W: fmt::Write>(&self, f: &mut fmt::Formatter<W>) -> fmt::Result {
         match self {
-            Refusal::Book(_) => write!(f, "the tables do not hold what the book says"),
+            Refusal::Book(reason) => write!(f, "{reason}"),
             Refusal::BadQuery => {
                 write!(
                     f,

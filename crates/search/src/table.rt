@@ -21,6 +21,7 @@ fn number(shift: Shift) -> usize
     }
 }
 
+// That a row or a place lies inside is a fact of it and of the inquiry together, so each call that is given one asks for it.
 impl<P> Inquiry<'_, P> {
     // The place in a layer of the row in the part for that shift.
     pub fn place(&self, shift: Shift, row: usize) -> usize

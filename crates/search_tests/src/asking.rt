@@ -39,7 +39,7 @@ pub enum Total {
     Waits(u16),
 }
 
-// The total and the count of rides, or the number of the refusal; and the ride list whole, so that nothing past the rides,
+// The total and the count of rides, or the number of the refusal, as agents know it; and the ride list whole, so that nothing past the rides,
 // and after a refusal nothing at all, may have been written.
 #[derive(Clone, Copy, PartialEq, Eq, Debug)]
 pub struct Answer {
