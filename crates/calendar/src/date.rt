@@ -62,7 +62,7 @@ impl Date {
     {
         let YearDay { year, mut over } = year_day_of(day);
         let mut month = 1;
-        // So are months, whose length hangs on the year too; one loop for both would not say which of the two it counts.
+        // So are months. One function for both loops would take the length as a closure, and hide what it counts.
         while over >= month_length(year, month) {
             over -= month_length(year, month);
             month += 1;
