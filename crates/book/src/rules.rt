@@ -88,6 +88,7 @@ pub fn are_in_order(stops: &[StopRow]) -> bool
     ensures { result ≡ in_order None stops.now }
 {
     let mut before = None;
+    // as plain as a `try_fold`, which would hand the stop before from one to the next
     for stop in stops {
         if may_follow(before, *stop).is_err() {
             return false;

@@ -15,6 +15,7 @@ fn are_sound(rows: &[TrainRow], used: u16, stops: &[StopRow]) -> bool
     ensures { result ≡ (gapless 0 used rows.now && all_sound (trains_in rows.now stops.now)) }
 {
     let mut at = 0;
+    // as plain as a `try_fold`, which would hand on where the next train begins
     for row in rows {
         let end = at + row.count as u16;
         if row.first != at

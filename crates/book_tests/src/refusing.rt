@@ -82,9 +82,12 @@ fn enter_timed(
 ) -> Result<Book, Refused<Book>> {
     let mut entry = book.begin(trains, stops, number, 127, 0)?;
     for (station, arrive, depart) in times {
-        entry = entry
-            .stop(trains, stops, *station, *arrive, depart.map(at))
-            .map_err(Refused::abandoned)?;
+        let row = StopRow {
+            station: *station,
+            arrive: *arrive,
+            depart: depart.map(at),
+        };
+        entry = next(entry, trains, stops, row)?;
     }
     entry.finish(trains, stops).map_err(Refused::abandoned)
 }
