@@ -39,7 +39,6 @@ impl<P: Tariff> Inquiry<'_, P> {
         work: &[WorkRecord<P::Total>],
         layer: Layer,
         arrivals: &Arrivals,
-        usable: bool,
         run: Run,
         i: usize,
     ) -> Option<Label<P::Total>>
@@ -47,11 +46,11 @@ impl<P: Tariff> Inquiry<'_, P> {
         requires linked { LinkedBefore self.now.stops.now work.now layer.number arrivals.now }
         requires in_force { run.train < length self.now.trains.now }
         requires on_the_train { i < (train_row run.train self.now.trains.now).count }
-        ensures settles { (runs : Pairs) → usable ≡ may_use runs self.now.query.now (train_row run.train self.now.trains.now) run.shift → Filled (P.Tariff.meaning self.now.tariff.now) runs self.now.query.now self.now.trains.now self.now.stops.now work.now layer.number → SettlesBoarding (P.Tariff.meaning self.now.tariff.now) (trains_in self.now.trains.now self.now.stops.now) runs self.now.query.now (Trail self.now.trains.now (length self.now.stops.now) work.now layer.number) layer.number run.train run.shift i result }
+        ensures settles { (runs : Pairs) → run.usable ≡ may_use runs self.now.query.now (train_row run.train self.now.trains.now) run.shift → Filled (P.Tariff.meaning self.now.tariff.now) runs self.now.query.now self.now.trains.now self.now.stops.now work.now layer.number → SettlesBoarding (P.Tariff.meaning self.now.tariff.now) (trains_in self.now.trains.now self.now.stops.now) runs self.now.query.now (Trail self.now.trains.now (length self.now.stops.now) work.now layer.number) layer.number run.train run.shift i result }
     {
         let row = self.trains[run.train].first as usize + i;
         let stop = &self.stops[row];
-        if !usable || !may_board(stop) {
+        if !run.usable || !may_board(stop) {
             return None;
         }
         let board = i as u8;

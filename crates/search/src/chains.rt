@@ -40,11 +40,7 @@ impl Chain {
 pub fn no_arrivals() -> Arrivals
     ensures { result ≡ no_arrivals }
 {
-    ByShift {
-        day_before: Chain::empty(),
-        same_day: Chain::empty(),
-        day_after: Chain::empty(),
-    }
+    ByShift::each(|_| Chain::empty())
 }
 
 impl<P: Tariff> Inquiry<'_, P> {

@@ -5,6 +5,7 @@ ghost use Rattle.connection.specs.declared.ride.Shift.{Shift as AShift};
 ghost use Rattle.search.specs.Shifts.{of_shifts};
 ghost use Rattle.search.specs.Working.{costs_at_most, stepped};
 
+use crate::by_shift::ByShift;
 use connection::label::Label;
 use connection::ride::Shift;
 use tariff::Tariff;
@@ -38,8 +39,7 @@ pub fn cheaper<P: Tariff, L: Priced<P::Total>>(tariff: &P, a: Option<L>, b: Opti
                 Some(second)
             }
         }
-        (None, _) => b,
-        (_, None) => a,
+        _ => a.or(b),
     }
 }
 
@@ -51,10 +51,9 @@ pub fn cheapest_of_shifts<P: Tariff, L: Priced<P::Total>, F: Fn(Shift) -> Option
     requires { F.IsAlwaysCallable find }
     ensures { (found : AShift → Option L) × ((s : AShift) → F.post find s (found s)) × (result ≡ of_shifts (costs_at_most (P.Tariff.meaning tariff.now) L.total_of) found) }
 {
-    let before = find(Shift::DayBefore);
-    let same = find(Shift::SameDay);
-    let after = find(Shift::DayAfter);
-    cheaper(tariff, before, cheaper(tariff, same, after))
+    let found = ByShift::each(find);
+    let later = cheaper(tariff, found.same_day, found.day_after);
+    cheaper(tariff, found.day_before, later)
 }
 
 // The label of who goes on by the step.

@@ -14,8 +14,9 @@ use crate::run::Run;
 use connection::ride::Shift;
 use tariff::Tariff;
 
-// The work table, a layer and the arrivals ahead of it stay three parameters: what is known of them is known of a table
-// that is being written, and a struct that held it would have to promise in every clause that the rest stays.
+// The work table, a layer and the arrivals ahead of it stay three parameters, and that they belong together stays with each
+// call: it is known of a table that is being written, and a struct that held the table would have to promise in every
+// clause that the rest stays. Those that only read are called in the middle of that, with the table lent for the call.
 impl<P: Tariff> Inquiry<'_, P> {
     // Writes layer after layer, until all changes are used up or a layer has no label, and tells how many layers there are.
     pub fn fill_layers(&self, work: &mut [WorkRecord<P::Total>], usable: &Usable) -> usize
@@ -71,8 +72,12 @@ impl<P: Tariff> Inquiry<'_, P> {
     {
         let mut found = false;
         for (train, usable) in usable[..self.trains.len()].iter().enumerate() {
-            let run = Run { train, shift };
-            found |= self.fill_run(work, layer, arrivals, *usable, run);
+            let run = Run {
+                train,
+                shift,
+                usable: *usable,
+            };
+            found |= self.fill_run(work, layer, arrivals, run);
         }
         found
     }

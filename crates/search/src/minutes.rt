@@ -10,6 +10,7 @@ use book::rows::StopRow;
 use connection::ride::Shift;
 use tariff::step::{Kind, Step};
 
+// A stop without the time, or the fare, has 0; no such is asked of a train that keeps the rules.
 fn arrival(stop: &StopRow) -> u16
     ensures { result ≡ arrival stop.now }
 {

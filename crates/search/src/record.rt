@@ -26,6 +26,7 @@ impl<T: Copy> WorkRecord<T> {
         }
     }
 
+    // The label that the record holds. A method, as only std may convert into its Option.
     pub(crate) fn label(self) -> Option<Label<T>>
         ensures { result ≡ label_of self }
     {

@@ -27,13 +27,12 @@ impl<P: Tariff> Inquiry<'_, P> {
         work: &mut [WorkRecord<P::Total>],
         layer: Layer,
         arrivals: &Arrivals,
-        usable: bool,
         run: Run,
     ) -> bool
         requires within { HasLayers (length self.now.stops.now) work.old (layer.number + 1) }
         requires linked { LinkedBefore self.now.stops.now work.old layer.number arrivals.now }
         requires in_force { run.train < length self.now.trains.now }
-        ensures { Fills (P.Tariff.meaning self.now.tariff.now) self.now.query.now self.now.trains.now self.now.stops.now layer.number (RunAsked self.now.query.now (train_row run.train self.now.trains.now) run.shift usable) work.old work.new (run_begins self.now.trains.now (length self.now.stops.now) run.train run.shift) (run_ends self.now.trains.now (length self.now.stops.now) run.train run.shift) result }
+        ensures { Fills (P.Tariff.meaning self.now.tariff.now) self.now.query.now self.now.trains.now self.now.stops.now layer.number (RunAsked self.now.query.now (train_row run.train self.now.trains.now) run.shift run.usable) work.old work.new (run_begins self.now.trains.now (length self.now.stops.now) run.train run.shift) (run_ends self.now.trains.now (length self.now.stops.now) run.train run.shift) result }
     {
         let train = self.trains[run.train];
         let first = train.first as usize;
@@ -47,7 +46,7 @@ impl<P: Tariff> Inquiry<'_, P> {
             put_label(work, at + i, aboard);
             found |= aboard.is_some();
             if let Some(next) = stops.get(i + 1) {
-                let boarded = self.boarding(work, layer, arrivals, usable, run, i);
+                let boarded = self.boarding(work, layer, arrivals, run, i);
                 aboard = self.ride_on(boarded, aboard, stop, next);
             }
         }
@@ -84,6 +83,7 @@ impl<P: Tariff> Inquiry<'_, P> {
         requires placed { place < 3 * length self.now.stops.now }
         ensures { result ≡ unless_beaten (P.Tariff.meaning self.now.tariff.now) (length self.now.stops.now) work.now place layer.number label }
     {
+        // no `filter`: nothing is known of what its closure answers by the labels of a table
         let new = label?;
         if self.is_beaten(work, layer, place, new.total) {
             return None;

@@ -1,11 +1,12 @@
 // What is boarded.
 use connection::ride::Shift;
 
-// A train, by its row, that sets out on a day, as seen from the query's day.
+// A train, by its row, that sets out on a day, as seen from the query's day; and whether the query may use it then.
 #[derive(Clone, Copy)]
 pub struct Run {
     pub train: usize,
     pub shift: Shift,
+    pub usable: bool,
 }
 
 // What a traveller wants to catch at a station: what leaves there at the minute, from the stop `board` of its train.

@@ -1,7 +1,7 @@
 // Where a record stands in the work table, and the label that it holds.
 ghost use Rattle.std.specs.Prelude.{◌≡◌, ◌+◌, ◌*◌, ◌<◌, ◌≤◌, length, slice_set};
 ghost use Rattle.search.specs.Records.{record_of};
-ghost use Rattle.search.specs.Working.{number as number_of, place, part_at, label_at};
+ghost use Rattle.search.specs.Working.{number as number_of, place, layer_at, part_at, label_at};
 
 use crate::inquiry::Inquiry;
 use crate::layer::Layer;
@@ -9,7 +9,8 @@ use crate::record::WorkRecord;
 use connection::label::Label;
 use connection::ride::Shift;
 
-// The parts of a layer in their order.
+// The parts of a layer in their order. Only a place in the table has numbers for shifts; a shift and a row name it, and stay
+// two, as each is asked for alone too.
 fn number(shift: Shift) -> usize
     ensures is { result ≡ number_of shift }
     ensures below { result < 3 }
@@ -31,11 +32,18 @@ impl<P> Inquiry<'_, P> {
         number(shift) * self.stops.len() + row
     }
 
-    // Where the part of the layer for that shift begins.
+    // Where the layer begins in the work table.
+    pub fn layer_at(&self, layer: Layer) -> usize
+        ensures { result ≡ layer_at (length self.now.stops.now) layer.number }
+    {
+        layer.number * (3 * self.stops.len())
+    }
+
+    // Where its part for that shift begins.
     pub fn part_at(&self, layer: Layer, shift: Shift) -> usize
         ensures { result ≡ part_at (length self.now.stops.now) layer.number shift }
     {
-        layer.number * (3 * self.stops.len()) + number(shift) * self.stops.len()
+        self.layer_at(layer) + self.place(shift, 0)
     }
 }
 

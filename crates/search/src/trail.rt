@@ -25,7 +25,7 @@ impl<P: Tariff> Inquiry<'_, P> {
         requires told { (whole : List ARide) × Trail self.now.trains.now (length self.now.stops.now) work.now (suc layer.number) place whole }
         ensures written { (whole : List ARide) → Trail self.now.trains.now (length self.now.stops.now) work.now (suc layer.number) place whole → rides.new ≡ whole ++ drop (layer.number + 1) rides.old }
     {
-        let last = work[layer.number * (3 * self.stops.len()) + place];
+        let last = work[self.layer_at(layer) + place];
         // Who did not start on this train changed to it from a place of the layer before.
         if let Some(before) = layer.before() {
             self.write_rides(work, before, last.from as usize, rides);

@@ -39,8 +39,8 @@ pub enum Total {
     Waits(u16),
 }
 
-// The total and the count of rides, or the number of the refusal, as agents know it; and the ride list whole, so that nothing past the rides,
-// and after a refusal nothing at all, may have been written.
+// The total and the count of rides, or the number of the refusal, as agents know it; and the ride list whole, so that nothing
+// past the rides, and after a refusal nothing at all, may have been written.
 #[derive(Clone, Copy, PartialEq, Eq, Debug)]
 pub struct Answer {
     found: Result<(Total, usize), u8>,

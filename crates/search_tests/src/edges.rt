@@ -69,7 +69,10 @@ fn a_change_missed_by_a_minute_is_made_earlier(rt: HostRuntime) -> Result<(), Fa
 fn a_train_that_set_out_the_day_before_is_caught_until_it_leaves(
     rt: HostRuntime,
 ) -> Result<(), Fail> {
-    let rows = [StopRow::first(6, at(o_clock(24, 30), 0)), StopRow::last(7, o_clock(25, 0))];
+    let rows = [
+        StopRow::first(6, at(o_clock(24, 30), 0)),
+        StopRow::last(7, o_clock(25, 0)),
+    ];
     let timetable = Timetable::new().with(14, 1, 0, &rows)?;
     let rides = [ride(0, Shift::DayBefore, 0, 1)];
     let at_0010 = ask(&timetable, By::Minutes, on_tuesday(6, 7, 10, 2));

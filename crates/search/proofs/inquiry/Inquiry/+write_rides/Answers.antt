@@ -1,4 +1,4 @@
-use Rattle.std.proofs.Common.{◌+◌, ◌*◌, ◌≤◌, length, mul-le-mul_right, arith}
+use Rattle.std.proofs.Common.{◌≡◌, ℕ, ◌+◌, ◌*◌, ◌≤◌, length, slice_index_or, subst, mul-le-mul_right, arith}
 use Rattle.search.proofs.TrailsAreWritten.{trail_inside, last_inside, last_is, trail_before, first_ends, next_ends}
 use Rattle.search.proofs.inquiry.Inquiry.+write_rides.Goals as goal
 use Rattle.search.proofs.inquiry.Inquiry.+write_rides.Goals.{in-Some, in_default}
@@ -11,26 +11,26 @@ overflow_add-last g t c =
     let m : a.layer.number * size ≤ 15 * size = mul-le-mul_right {m = a.layer.number} {n = 15} size a.layer.shallow in
     omega (arith, now.ordered.few_stops, trail_inside now.trains.now now.stops.now now.ordered a.work.now a.layer.number a.place c.requires.told)
 
-pub offset_bounds-work-layer : goal.offset_bounds-work-layer
-offset_bounds-work-layer g t c =
+pub offset_bounds-work-layer_at : goal.offset_bounds-work-layer_at
+offset_bounds-work-layer_at g t c =
     let a = c.args in
     let now = a.self.now in
     omega (arith, last_inside now.trains.now now.stops.now now.ordered a.work.now a.layer.number a.place c.requires.within c.requires.told)
 
-pub bounds-work-layer : goal.bounds-work-layer
-bounds-work-layer g t c =
+pub bounds-work-layer_at : goal.bounds-work-layer_at
+bounds-work-layer_at g t c =
     let a = c.args in
     let now = a.self.now in
-    last_inside now.trains.now now.stops.now now.ordered a.work.now a.layer.number a.place c.requires.within c.requires.told
+    rw c.layer_at.ensures (last_inside now.trains.now now.stops.now now.ordered a.work.now a.layer.number a.place c.requires.within c.requires.told)
 
 pub overflow_cast-last : goal.overflow_cast-last
 overflow_cast-last g t c =
     let a = c.args in
     let now = a.self.now in
     let p = c.requires in
-    let x = c.index-work-layer.result in
+    let x = c.index-work-layer_at.result in
     let j = c.in-Some.before.number in
-    let is = last_is now.trains.now now.stops.now now.ordered a.work.now a.layer.number a.place x p.within p.told c.index-work-layer.is in
+    let is = last_is now.trains.now now.stops.now now.ordered a.work.now a.layer.number a.place x p.within p.told (subst (λ (n : ℕ). x ≡ slice_index_or a.work.now (n + a.place) x) c.layer_at.ensures c.index-work-layer_at.is) in
     let before = trail_before now.trains.now now.stops.now now.ordered a.work.now a.layer.number j a.place x is c.in-Some.ensures p.told in
     omega (arith, now.ordered.few_stops, trail_inside now.trains.now now.stops.now now.ordered a.work.now j x.from before)
 
@@ -39,9 +39,9 @@ write_rides-requires g t c κs within =
     let a = c.args in
     let now = a.self.now in
     let p = c.requires in
-    let x = c.index-work-layer.result in
+    let x = c.index-work-layer_at.result in
     let j = c.in-Some.before.number in
-    let is = last_is now.trains.now now.stops.now now.ordered a.work.now a.layer.number a.place x p.within p.told c.index-work-layer.is in
+    let is = last_is now.trains.now now.stops.now now.ordered a.work.now a.layer.number a.place x p.within p.told (subst (λ (n : ℕ). x ≡ slice_index_or a.work.now (n + a.place) x) c.layer_at.ensures c.index-work-layer_at.is) in
     let before = trail_before now.trains.now now.stops.now now.ordered a.work.now a.layer.number j a.place x is c.in-Some.ensures p.told in
     let size = 3 * length now.stops.now in
     let m : (j + 1) * size ≤ (a.layer.number + 1) * size = mul-le-mul_right {m = j + 1} {n = a.layer.number + 1} size (omega (arith, c.in-Some.ensures)) in
@@ -58,8 +58,8 @@ returns g t c =
     let a = c.args in
     let now = a.self.now in
     let p = c.requires in
-    let x = c.index-work-layer.result in
-    let is = last_is now.trains.now now.stops.now now.ordered a.work.now a.layer.number a.place x p.within p.told c.index-work-layer.is in
+    let x = c.index-work-layer_at.result in
+    let is = last_is now.trains.now now.stops.now now.ordered a.work.now a.layer.number a.place x p.within p.told (subst (λ (n : ℕ). x ≡ slice_index_or a.work.now (n + a.place) x) c.layer_at.ensures c.index-work-layer_at.is) in
     let made = c.ride_to.ensures in
     record {
       written = elim c.match-before.branch [

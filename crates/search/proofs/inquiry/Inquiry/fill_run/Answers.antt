@@ -41,7 +41,7 @@ loop-i-init g c =
     let laws = g.met.P.Tariff in
     let m = g.P.Tariff.meaning t in
     let basis : Basis m s.trains.now s.stops.now = record { connex = laws.connex t; transitive = laws.transitive t; keeps = laws.keeps t; starts = laws.starts t; counts = laws.counts t; timetable = timetable_of s } in
-    filled_none m s.query.now s.trains.now s.stops.now a.layer.number a.run.train a.run.shift a.usable basis c.requires.in_force a.work.now
+    filled_none m s.query.now s.trains.now s.stops.now a.layer.number a.run.train a.run.shift a.run.usable basis c.requires.in_force a.work.now
 
 pub boarding-boarded-requires-clause-linked : goal.boarding-boarded-requires-clause-linked
 boarding-boarded-requires-clause-linked g c later =
@@ -73,13 +73,13 @@ loop-i-preserved g c =
     let room : part_at size layer a.run.shift + row.first + l.i < length l.work = omega (arith, below) in
     let kept = c.unless_beaten-aboard.ensures ∙ ap (λ x. unless_beaten m size l.work x layer l.aboard) (ap (λ x. x + l.i) c.place-place.ensures ∙ add_assoc (number a.run.shift * size) row.first l.i) in
     let next = c.put_label.ensures ∙ ap (λ x. set l.work (x + row.first + l.i) (record_of c.unless_beaten-aboard.result)) c.part_at.ensures in
-    filled_more m s.query.now s.trains.now s.stops.now layer n a.run.shift a.usable basis c.requires.in_force a.work.now l.work l.i l.found l.aboard c.unless_beaten-aboard.result l.invariant li room kept c.put_label.new.work next (l.found || c.is_some-found.result) c.match-get.aboard (ap (λ b. l.found || b) c.is_some-found.ensures)
+    filled_more m s.query.now s.trains.now s.stops.now layer n a.run.shift a.run.usable basis c.requires.in_force a.work.now l.work l.i l.found l.aboard c.unless_beaten-aboard.result l.invariant li room kept c.put_label.new.work next (l.found || c.is_some-found.result) c.match-get.aboard (ap (λ b. l.found || b) c.is_some-found.ensures)
     (elim c.match-get.branch [
       | in-Some w ↦
           let on : l.i + 1 < length c.stops-stops.result.now = ltb-true _ _ (sym w.in-Some.ensures.lookup.0) in
           let stop_is = ap (λ x. stop_at x l.i) c.stops-stops.ensures ∙ own_stop s.trains.now s.stops.now s.ordered n l.i li in
           let there_is = get_or_read c.stops-stops.result.now (l.i + 1) _ on w.in-Some.ensures.lookup.1 _ ∙ ap (λ x. stop_at x (l.i + 1)) c.stops-stops.ensures ∙ own_stop s.trains.now s.stops.now s.ordered n (l.i + 1) (omega arith) in
-          comes_next m s.query.now s.trains.now s.stops.now layer n a.run.shift a.usable basis c.requires.in_force a.work.now l.work l.i l.found l.aboard c.unless_beaten-aboard.result l.invariant li room kept c.put_label.new.work next _ w.in-Some.next.now w.boarding-boarded.result c.match-get.aboard stop_is there_is (omega arith) w.boarding-boarded.ensures.settles (w.aboard-is ∙ w.ride_on-aboard.ensures)
+          comes_next m s.query.now s.trains.now s.stops.now layer n a.run.shift a.run.usable basis c.requires.in_force a.work.now l.work l.i l.found l.aboard c.unless_beaten-aboard.result l.invariant li room kept c.put_label.new.work next _ w.in-Some.next.now w.boarding-boarded.result c.match-get.aboard stop_is there_is (omega arith) w.boarding-boarded.ensures.settles (w.aboard-is ∙ w.ride_on-aboard.ensures)
       | in_default w ↦ λ runs may filled more. let none : length c.stops-stops.result.now ≤ l.i + 1 = ltb-false _ _ (sym w.in_default.ensures.lookup.0) in absurd (omega arith)
     ])
 
@@ -95,5 +95,5 @@ returns g c =
     let l = c.loop-i in
     let long : length c.stops-stops.result.now ≡ (train_row n s.trains.now).count = ap length c.stops-stops.ensures ∙ own_count s.trains.now s.stops.now s.ordered n c.requires.in_force in
     let end : l.i ≡ (train_row n s.trains.now).count = omega arith in
-    let state = subst (λ (i : ℕ). FilledTo m s.query.now s.trains.now s.stops.now a.layer.number n a.run.shift a.usable a.work.now l.work i l.found l.aboard) end l.invariant in
-    fills_run m s.query.now s.trains.now s.stops.now a.layer.number n a.run.shift a.usable basis c.requires.in_force a.work.now l.work l.found l.aboard state
+    let state = subst (λ (i : ℕ). FilledTo m s.query.now s.trains.now s.stops.now a.layer.number n a.run.shift a.run.usable a.work.now l.work i l.found l.aboard) end l.invariant in
+    fills_run m s.query.now s.trains.now s.stops.now a.layer.number n a.run.shift a.run.usable basis c.requires.in_force a.work.now l.work l.found l.aboard state
