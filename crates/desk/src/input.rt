@@ -11,7 +11,8 @@ use crate::said::said;
 use std::alloc::{AllocError, Global};
 use tariff::step::Step;
 
-// The lines of a text that are left, without their line feeds; the last may lack its own.
+// The lines of a text that are left, without their line feeds; the last may lack its own. By hand, as std's `split` would
+// give one line more behind the last line feed.
 #[derive(Drop)]
 struct Lines<'a> {
     left: &'a [u8],

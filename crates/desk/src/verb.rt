@@ -1,6 +1,7 @@
 // The first word of a line.
 ghost use Rattle.std.specs.Prelude.{◌≡◌};
 ghost use Rattle.desk.specs.Lines.{verb_named};
+ghost use Rattle.std.specs.Str.{bytes_eq};
 
 use tariff::step::Kind;
 
@@ -14,6 +15,13 @@ pub enum Verb {
     Finish,
     Abandon,
     Withdraw,
+}
+
+// Whether the word is that name.
+pub fn is(word: &[u8], name: &[u8]) -> bool
+    ensures { result ≡ bytes_eq word.now name.now }
+{
+    word == name
 }
 
 // What the word asks for.

@@ -40,6 +40,7 @@ fn run(rt: &HostRuntime) -> anyhow::Result<()> {
     let said = input::said_by(heap, &text)?;
     let steps = input::steps_of(heap, &said)?;
     let mut office = Office::new(heap, by_minutes)?;
+    // An entry that is open cannot be let go, so an error waits until the office is closed.
     let mut told = Ok(());
     for (index, line) in said.iter().enumerate() {
         let (next, printed) = office.answer(rt, index + 1, *line);
