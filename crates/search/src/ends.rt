@@ -36,7 +36,7 @@ impl<P: Tariff> Inquiry<'_, P> {
         requires within { HasLayers (length self.now.stops.now) work.now layers }
         ensures best { Best (ends_no_dearer (P.Tariff.meaning self.now.tariff.now)) (Ends self.now.stops.now work.now layers self.now.query.now.destination) result }
     {
-        // a `for`, as nothing is known of a `fold` whose closure asks the tariff
+        // as plain as a `fold`, in whose closure a row or a layer is not known to be one of these
         let mut best = None;
         // Few rows are at the destination, so the labels of the others are not looked at.
         for (row, stop) in self.stops.iter().enumerate() {
