@@ -1,4 +1,4 @@
-// A train is taken out of the book.
+// A train is taken out of the book. As in the other calls, what a refused one gives back would be let go of by `?`.
 ghost use Rattle.std.specs.Prelude.{◌≡◌};
 ghost use Rattle.book.specs.Answers.{withdraw_answer, withdraw_trains, withdraw_stops};
 ghost use Rattle.book.specs.Histories.{Closed, withdrawn_to, LeadsOn};

@@ -20,7 +20,8 @@ pub fn next(
         .map_err(Refused::abandoned)
 }
 
-// The book with a train of these stops; or as it was, and why.
+// The book with a train of these stops; or as it was, and why. The tests of the search enter trains likewise; a function for
+// both would be one of the book's.
 pub fn enter(
     book: Book,
     trains: &mut [TrainRow],

@@ -14,7 +14,7 @@ pub enum Refusal {
 }
 
 impl Refusal {
-    // The number under which the refusal is known.
+    // The number under which agents know the refusal, which is part of the product.
     pub fn number(&self) -> u8
         ensures { result ≡ number self.now }
     {

@@ -59,6 +59,7 @@ impl<P: Tariff> Inquiry<'_, P> {
         requires inside { row < length self.now.stops.now }
         ensures best { Best (ends_no_dearer (P.Tariff.meaning self.now.tariff.now)) (Among layers (EndsIn (length self.now.stops.now) work.now row)) result }
     {
+        // as plain as a `fold`, likewise
         let mut best = None;
         for number in 0..layers {
             let end = self.best_end_in(work, Layer { number }, row);

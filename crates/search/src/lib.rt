@@ -5,6 +5,7 @@
 //     // Err(Refusal::NoConnection): there is no connection
 //
 // It works in what it is lent and allocates nothing, hence a list of rides with their number, and a table of plain records.
+// The tables of trains and of stops are two, as the book's own calls are lent them.
 //
 // An `inquiry` is a query that can be asked, over rows that hold a book, under a tariff. It is answered by layers of labels,
 // one layer for each number of changes; a label is the cheapest total with which one can be on board a run at a stop.

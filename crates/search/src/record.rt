@@ -26,7 +26,7 @@ impl<T: Copy> WorkRecord<T> {
         }
     }
 
-    // The label that the record holds. A method, as only std may convert into its Option.
+    // The label that the record holds, by that name: `Option::from` a record would not say what is taken out of it.
     pub(crate) fn label(self) -> Option<Label<T>>
         ensures { result ≡ label_of self }
     {

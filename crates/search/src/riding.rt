@@ -117,6 +117,7 @@ impl<P: Tariff> Inquiry<'_, P> {
         requires within { layer_at (length self.now.stops.now) layer + place < length work.now }
         ensures { result ≡ costs_no_more (P.Tariff.meaning self.now.tariff.now) (label_of_record work.now (layer_at (length self.now.stops.now) layer + place)) total }
     {
+        // by the number of a layer alone, as no closure over numbers knows how far they go
         let label = label_at(work, layer * (3 * self.stops.len()) + place);
         label.is_some_and(|l| self.tariff.at_most(l.total, total))
     }
