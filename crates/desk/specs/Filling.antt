@@ -1,8 +1,9 @@
 -- What a call on the desk does: with a book or an open train, by the book's own answers.
-use Rattle.std.specs.Prelude.{ℕ, Bool, true, false, List, Some, None, Ok, Err, Option, Result, codes}
+use Rattle.std.specs.Prelude.{ℕ, Bool, true, false, List, Some, None, Ok, Err, Option, Result, ◌++◌, codes, decimal}
 use Rattle.book.specs.Answers.{begin_answer, stop_answer, stop_rows, finish_answer, finish_rows, abandon_answer, withdraw_answer, withdraw_trains, withdraw_stops}
 use Rattle.book.specs.Histories as histories
 use Rattle.book.specs.PlainList as plain
+use Rattle.book.specs.Refusals.{number, words}
 use Rattle.book.specs.declared.refusal.Refused as refused
 use Rattle.book.specs.declared.rows.StopRow.{StopRow}
 use Rattle.book.specs.declared.rows.TrainRow.{TrainRow}
@@ -20,11 +21,11 @@ abbrev pub after : {A B : Type 0} → (A → Desk) → (B → Desk) → Result A
 after given back (Ok a) = (given a, Ok tt)
 after given back (Err r) = (back r.back, Err (Refused r.refusal))
 
--- why a call was not done, in words; a refusal has its own
-abbrev pub words_of : NotDone → Option (List ℕ)
-words_of (Refused refusal) = None
-words_of NoTrainOpen = Some (codes "no train is open")
-words_of TrainOpen = Some (codes "a train is open; finish or abandon it first")
+-- why a call was not done, by the bytes of the words; a refusal by its number, and in its own words
+abbrev pub words_of : NotDone → List ℕ
+words_of (Refused refusal) = codes "refused " ++ decimal (number refusal) ++ codes ": " ++ words refusal
+words_of NoTrainOpen = codes "no train is open"
+words_of TrainOpen = codes "a train is open; finish or abandon it first"
 
 -- ---- with no train open
 module _ (b : Book) (ts : List TrainRow) (ss : List StopRow) where

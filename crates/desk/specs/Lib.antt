@@ -4,3 +4,4 @@ pub mod Input
 pub mod Lines
 pub mod Numbers
 pub mod Running
+pub mod Wanted

@@ -1,5 +1,5 @@
 // The book is filled call by call.
-ghost use Rattle.std.specs.Prelude.{◌≡◌, true, List, Ok, Err, MatchResult};
+ghost use Rattle.std.specs.Prelude.{◌≡◌, true, List, Some, Ok, Err, MatchResult};
 ghost use Rattle.book.specs.Histories.{LeadsOn};
 ghost use Rattle.book.specs.declared.rows.StopRow.{StopRow};
 ghost use Rattle.book.specs.declared.rows.TrainRow.{TrainRow};
@@ -56,7 +56,7 @@ impl From<Refusal> for NotDone {
 }
 
 impl fmt::Display for NotDone {
-    ghost output = { words_of };
+    ghost output = { λ why. Some (words_of why) };
 
     fn fmt<W: fmt::Write>(&self, f: &mut fmt::Formatter<W>) -> fmt::Result {
         match self {

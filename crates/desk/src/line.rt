@@ -1,4 +1,7 @@
 // What a line can say, and what is expected of one.
+ghost use Rattle.std.specs.Prelude.{Some};
+ghost use Rattle.desk.specs.Wanted.{wanted};
+
 use crate::asked::Asked;
 use book::rows::StopRow;
 use connection::query::Query;
@@ -57,7 +60,10 @@ pub enum Expected {
     End,
 }
 
+// In words.
 impl fmt::Display for Expected {
+    ghost output = { λ expected. Some (wanted expected) };
+
     fn fmt<W: fmt::Write>(&self, f: &mut fmt::Formatter<W>) -> fmt::Result {
         match self {
             Expected::Word => write!(
