@@ -30,11 +30,12 @@ kind_named word =
 abbrev pub other_verb : List ℕ → Option Verb
 other_verb word =
     cond (bytes_eq word (codes "runs")) (Some verbs.Runs) (
+    cond (bytes_eq word (codes "query")) (Some verbs.Query) (
     cond (bytes_eq word (codes "train")) (Some verbs.Train) (
     cond (bytes_eq word (codes "stop")) (Some verbs.Stop) (
     cond (bytes_eq word (codes "finish")) (Some verbs.Finish) (
     cond (bytes_eq word (codes "abandon")) (Some verbs.Abandon) (
-    cond (bytes_eq word (codes "withdraw")) (Some verbs.Withdraw) None)))))
+    cond (bytes_eq word (codes "withdraw")) (Some verbs.Withdraw) None))))))
 
 abbrev pub or_verb : Option Kind → Option Verb → Option Verb
 or_verb (Some kind) verb = Some (verbs.Step kind)

@@ -4,7 +4,7 @@ use Rattle.desk.specs.declared.line.Expected.{Expected}
 use Rattle.desk.specs.declared.line.Expected.TheVariants as expected
 
 abbrev pub wanted : Expected → List ℕ
-wanted expected.Word = codes "a first word: start, ride, stand, change, runs, train, stop, finish, abandon or withdraw"
+wanted expected.Word = codes "a first word: start, ride, stand, change, runs, query, train, stop, finish, abandon or withdraw"
 wanted expected.Minutes = codes "minutes, a number up to 65535"
 wanted expected.Fare = codes "a fare, a number up to 65535"
 wanted expected.Code = codes "a calendar code, a number up to 255"

@@ -68,7 +68,7 @@ impl fmt::Display for Expected {
         match self {
             Expected::Word => write!(
                 f,
-                "a first word: start, ride, stand, change, runs, train, stop, finish, abandon or withdraw"
+                "a first word: start, ride, stand, change, runs, query, train, stop, finish, abandon or withdraw"
             ),
             Expected::Minutes => write!(f, "minutes, a number up to 65535"),
             Expected::Fare => write!(f, "a fare, a number up to 65535"),

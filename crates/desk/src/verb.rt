@@ -34,6 +34,7 @@ pub fn verb_named(word: &[u8]) -> Option<Verb>
         b"stand" => Some(Verb::Step(Kind::Stand)),
         b"change" => Some(Verb::Step(Kind::Change)),
         b"runs" => Some(Verb::Runs),
+        b"query" => Some(Verb::Query),
         b"train" => Some(Verb::Train),
         b"stop" => Some(Verb::Stop),
         b"finish" => Some(Verb::Finish),
