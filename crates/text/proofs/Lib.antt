@@ -1,0 +1,17 @@
+mod Accepted
+mod AlongCalls
+mod Brought
+mod ClockDigits
+mod Cuts
+mod Digits
+mod FieldsInTurn
+mod LinesAndFields
+mod LinesInTurn
+mod LinesSay
+mod ReadingIsCalls
+mod ReadyToRead
+mod Returning
+mod RowsAreTrains
+mod WholeText
+mod WrittenNumbers
+mod WrittenTimes

@@ -1,0 +1,12 @@
+pub mod Cuts
+pub mod Faults
+pub mod Handing
+pub mod Lines
+pub mod Numbers
+pub mod Placing
+pub mod Reading
+pub mod Returns
+pub mod Saying
+pub mod Times
+pub mod Writing
+pub mod Written
