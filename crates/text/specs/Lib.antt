@@ -2,8 +2,9 @@ pub mod Cuts
 pub mod Faults
 pub mod Handing
 pub mod Lines
+pub mod Measured
 pub mod Numbers
-pub mod Placing
+pub mod Puts
 pub mod Reading
 pub mod Returns
 pub mod Saying

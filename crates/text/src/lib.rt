@@ -4,8 +4,10 @@
 pub mod cut;
 pub mod fault;
 mod filling;
+mod measuring;
 mod names;
 pub mod numbers;
+mod putting;
 mod reader;
 pub mod reading;
 pub mod refusal;
@@ -13,3 +15,4 @@ mod saying;
 pub mod stage;
 pub mod stop_line;
 pub mod times;
+pub mod writing;

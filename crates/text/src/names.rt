@@ -1,2 +1,2 @@
-// The line of names, with which each text begins.
+// The first line of a text.
 pub const NAMES: &[u8] = b"train,code,features,station,arrive,depart,fare";

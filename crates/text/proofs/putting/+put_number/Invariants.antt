@@ -1,0 +1,5 @@
+-- A number without its last digit is smaller.
+use Rattle.text.proofs.putting.+put_number.Given as goal
+
+abbrev pub decreases-put_number : goal.decreases-put_number
+decreases-put_number l = l.n
