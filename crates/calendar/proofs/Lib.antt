@@ -1,4 +1,6 @@
+mod Days
 mod Listings
 mod Months
 mod Noting
+mod WrittenDates
 mod Zeros

@@ -2,7 +2,7 @@
 use Rattle.std.proofs.Common.{◌≡◌, ℕ, zero, suc, ◌+◌, ◌-◌, ◌<◌, ◌≤◌, true, false, cond, ltb, sym, refl, ap, ◌∙◌, inl, inr, suc-add, zero-add, add-one, arith}
 use Rattle.std.proofs.lemmas.Bool.{cases_eq, cond-true, cond-false, lt-ltb, le-ltb}
 use Rattle.std.proofs.lemmas.Bool.Decides.{nat_tests}
-use Rattle.calendar.specs.Dates.{is_leap, month_length, year_length, on, tomorrow, after, new_year}
+use Rattle.calendar.specs.Dates.{is_leap, month_length, year_length, days_through, on, tomorrow, after, new_year}
 use Rattle.calendar.specs.declared.date.Date.{Date}
 
 pub after_add : (a b : ℕ) (t : Date) → after (a + b) t ≡ after b (after a t)
@@ -45,11 +45,6 @@ module _ (y m : ℕ) where
       ∙ cond-false (ltb (month_length y m) (month_length y m)) _ _ (le-ltb (month_length y m) (month_length y m) (omega arith))
       ∙ cond-true (ltb m 12) _ _ (lt-ltb m 12 h)
 
--- the days of the first m months
-abbrev pub days_through : ℕ → ℕ → ℕ
-days_through y zero = 0
-days_through y (suc m) = days_through y m + month_length y (suc m)
-
 module _ (y : ℕ) where
   pub year_through : days_through y 12 ≡ year_length y
   year_through = elim (is_leap y) as (λ b. (((((((((((0 + 31) + cond b 29 28) + 31) + 30) + 31) + 30) + 31) + 31) + 30) + 31) + 30) + 31 ≡ cond b 366 365) [ true ↦ refl | false ↦ refl ]
@@ -68,7 +63,7 @@ module _ (y : ℕ) where
   pub one_month_more : (m : ℕ) → days_through y (m + 1) ≡ days_through y m + month_length y (m + 1)
   one_month_more m = rw add-one refl
 
-  months : (m : ℕ) → m < 12 → after (days_through y m) (new_year y) ≡ on y (suc m) 1
+  pub months : (m : ℕ) → m < 12 → after (days_through y m) (new_year y) ≡ on y (suc m) 1
   months zero h = refl
   months (suc m) h =
       after_add (days_through y m) (month_length y (suc m)) (new_year y)

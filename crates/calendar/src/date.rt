@@ -1,6 +1,6 @@
 // Days as dates of the Gregorian calendar.
-ghost use Rattle.std.specs.Prelude.{◌≡◌, ◌<◌, Some};
-ghost use Rattle.calendar.specs.Dates.{is_leap, month_length, year_length, date_of, new_year, after, date_text};
+ghost use Rattle.std.specs.Prelude.{◌≡◌, ◌<◌, ℕ, Some, IfSome, true};
+ghost use Rattle.calendar.specs.Dates.{is_leap, month_length, year_length, date_of, new_year, after, date_text, in_calendar, day_of, two, are_digits, date_written};
 
 use std::fmt;
 
@@ -18,6 +18,9 @@ struct YearDay {
     year: u16,
     over: u16,
 }
+
+// The year that has day 65,535.
+const LAST_YEAR: u16 = 2179;
 
 fn is_leap(year: u16) -> bool
     ensures { result ≡ is_leap year }
@@ -39,6 +42,19 @@ fn month_length(year: u16, month: u8) -> u16
         4 | 6 | 9 | 11 => 30,
         _ => 31,
     }
+}
+
+fn are_digits(tens: u8, ones: u8) -> bool
+    ensures { result ≡ are_digits tens ones }
+{
+    tens.is_ascii_digit() && ones.is_ascii_digit()
+}
+
+fn two_digits(tens: u8, ones: u8) -> u8
+    requires { are_digits tens ones ≡ true }
+    ensures { result ≡ two tens ones }
+{
+    10 * (tens - b'0') + (ones - b'0')
 }
 
 fn year_day_of(day: u16) -> YearDay
@@ -72,6 +88,56 @@ impl Date {
             month,
             day: over as u8 + 1,
         }
+    }
+
+    // The date that is written so, as 2000-01-04, if it is one of the Gregorian calendar.
+    #[tactic(auto, unfolding(crate::specs::Dates::date_written))]
+    pub fn written(text: &[u8]) -> Option<Date>
+        ensures date { result ≡ date_written text.now }
+        ensures text { IfSome result (λ t. date_text t ≡ text.now) }
+    {
+        match text {
+            [a, b, c, d, b'-', e, f, b'-', g, h]
+                if are_digits(*a, *b)
+                    && are_digits(*c, *d)
+                    && are_digits(*e, *f)
+                    && are_digits(*g, *h) => {
+                let date = Date {
+                    year: 100 * two_digits(*a, *b) as u16 + two_digits(*c, *d) as u16,
+                    month: two_digits(*e, *f),
+                    day: two_digits(*g, *h),
+                };
+                date.is_in_calendar().then_some(date)
+            }
+            _ => None,
+        }
+    }
+
+    // The day that has this date, if there is one: the first is 1 January 2000, and the last has number 65,535.
+    pub fn day(&self) -> Option<u16>
+        ensures day { result ≡ day_of self.now }
+        ensures date { IfSome result (λ d. date_of d ≡ self.now) }
+        ensures every { (d : ℕ) → d < 65536 → date_of d ≡ self.now → result ≡ Some d }
+    {
+        if !self.is_in_calendar() || self.year < 2000 || self.year > LAST_YEAR {
+            return None;
+        }
+        let mut days = self.day as u32 - 1;
+        for year in 2000..self.year {
+            days += year_length(year) as u32;
+        }
+        for month in 1..self.month {
+            days += month_length(self.year, month) as u32;
+        }
+        u16::try_from(days).ok()
+    }
+
+    fn is_in_calendar(&self) -> bool
+        ensures { result ≡ in_calendar self.now }
+    {
+        matches!(self.month, 1..=12)
+            && self.day >= 1
+            && self.day as u16 <= month_length(self.year, self.month)
     }
 }
 

@@ -33,6 +33,53 @@ fn days_have_their_dates_and_weekdays(rt: HostRuntime) {
     }
 }
 
+#[test]
+fn a_written_date_gives_its_day(rt: HostRuntime) {
+    let dates = [
+        ("2000-01-01", on(2000, 1, 1), Some(0)),
+        ("2000-02-29", on(2000, 2, 29), Some(59)),
+        ("2000-12-31", on(2000, 12, 31), Some(365)),
+        ("2100-03-01", on(2100, 3, 1), Some(36584)),
+        ("2179-06-06", on(2179, 6, 6), Some(65535)),
+        ("2179-06-07", on(2179, 6, 7), None),
+        ("2180-01-01", on(2180, 1, 1), None),
+        ("1999-12-31", on(1999, 12, 31), None),
+        ("0000-02-29", on(0, 2, 29), None),
+        ("9999-12-31", on(9999, 12, 31), None),
+    ];
+    for (text, date, day) in dates.iter() {
+        assert_eq!(rt; Date::written(text.as_bytes()), Some(*date));
+        assert_eq!(rt; date.day(), *day);
+    }
+}
+
+#[test]
+fn what_is_not_written_as_a_date_is_none(rt: HostRuntime) {
+    let texts = [
+        "2001-02-29",
+        "2100-02-29",
+        "2000-04-31",
+        "2000-13-01",
+        "2000-00-10",
+        "2000-01-00",
+        "2000-01-32",
+        "2000-1-1",
+        "2000-01-001",
+        "2000-01-0a",
+        "+000-01-01",
+        "2000/01/01",
+        "2000-01/01",
+        "20000101",
+        "",
+    ];
+    for text in texts.iter() {
+        assert_eq!(rt; Date::written(text.as_bytes()), None);
+    }
+    assert_eq!(rt; on(2100, 2, 29).day(), None);
+    assert_eq!(rt; on(2000, 13, 1).day(), None);
+    assert_eq!(rt; on(2000, 1, 0).day(), None);
+}
+
 // Days 2 and 65,529 are Mondays, and bit 7 says nothing.
 #[test]
 fn a_weekly_code_runs_on_the_weekdays_of_its_bits(rt: HostRuntime) {

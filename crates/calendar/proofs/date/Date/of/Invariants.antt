@@ -1,6 +1,5 @@
 use Rattle.std.proofs.Common.{◌≡◌, ◌+◌, ◌<◌, ◌≤◌}
-use Rattle.calendar.specs.Dates.{after, on, date_of, month_length, year_length}
-use Rattle.calendar.proofs.Months.{days_through}
+use Rattle.calendar.specs.Dates.{after, on, date_of, month_length, year_length, days_through}
 use Rattle.calendar.proofs.date.Date.of.Given as goal
 
 abbrev pub invariant-loop-over : goal.invariant-loop-over
