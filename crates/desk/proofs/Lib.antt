@@ -1,5 +1,1 @@
-mod Called
-mod Cuts
-mod Digits
-mod Fortnights
-mod QueryLines
+mod ExampleLines

@@ -1,7 +1,7 @@
-pub mod Cuts
-pub mod Filling
-pub mod Input
-pub mod Lines
-pub mod Numbers
-pub mod Running
+pub mod Days
+pub mod Legs
+pub mod Questions
+pub mod Reports
+pub mod Rows
+pub mod Tariffs
 pub mod Wanted

@@ -1,0 +1,108 @@
+// Answers queries over a timetable.
+use crate::timetable::Timetable;
+use calendar::Calendar;
+use connection::query::Query;
+use connection::ride::{Ride, Shift};
+use desk::asked::Asked;
+use desk::leg::leg_of;
+use desk::question::{Question, asked_by};
+use search::record::WorkRecord;
+use search::search;
+use std::fmt;
+use std::io::{BufRead, BufReader};
+use tariff::Tariff;
+use tariff::fares::Fares;
+use tariff::minutes::Minutes;
+use tariff::waits::Waits;
+
+// As many rides as a query may allow.
+const MOST_RIDES: usize = 16;
+
+const UNUSED: Ride = Ride {
+    train: 0,
+    shift: Shift::SameDay,
+    board: 0,
+    alight: 0,
+};
+
+// The cheapest connection under the tariff, ride by ride, and what it costs; or why there is none.
+fn print_found<P: Tariff, C: Calendar>(
+    rt: &HostRuntime,
+    timetable: &Timetable,
+    tariff: &P,
+    calendar: &C,
+    query: Query,
+) -> anyhow::Result<()>
+where
+    P::Total: fmt::Display,
+{
+    let Timetable {
+        book,
+        trains,
+        stops,
+        ..
+    } = timetable;
+    let mut rides = [UNUSED; MOST_RIDES];
+    let mut work = vec![in rt.alloc(); WorkRecord::blank(); timetable.records_for(query)]?;
+    match search(
+        book, trains, stops, tariff, calendar, query, &mut rides, &mut work,
+    ) {
+        Ok((total, count)) => {
+            for ride in &rides[..count] {
+                if let Some(leg) = leg_of(query.day, *ride, trains, stops) {
+                    println!(rt; "{leg}")?;
+                }
+            }
+            println!(rt; "  cost {total}, rides {count}")?;
+        }
+        Err(refusal) => {
+            let number = refusal.number();
+            println!(rt; "  refused {number}: {refusal}")?;
+        }
+    }
+    Ok(())
+}
+
+// The answer to the question, under the tariff that it asks for.
+fn print_answer<C: Calendar>(
+    rt: &HostRuntime,
+    timetable: &Timetable,
+    calendar: &C,
+    question: Question,
+) -> anyhow::Result<()> {
+    println!(rt; "{question}")?;
+    let Question { query, tariff } = question;
+    match tariff {
+        Asked::Minutes { penalty } => match Minutes::new(penalty) {
+            Ok(tariff) => print_found(rt, timetable, &tariff, calendar, query),
+            Err(refusal) => {
+                let number = refusal.number();
+                println!(rt; "  refused {number}: {refusal}")?;
+                Ok(())
+            }
+        },
+        Asked::Fares => print_found(rt, timetable, &Fares, calendar, query),
+        Asked::Waits => print_found(rt, timetable, &Waits, calendar, query),
+    }
+}
+
+// Answers each line of standard input as it is read, with an empty line behind each answer. Empty lines ask nothing.
+pub fn answer_all<C: Calendar>(
+    rt: &HostRuntime,
+    timetable: &Timetable,
+    calendar: &C,
+) -> anyhow::Result<()> {
+    let lines = BufReader::new(rt.alloc(), rt.stdin())?.split(rt.alloc(), b'\n');
+    for (index, line) in lines.enumerate() {
+        let line = line?;
+        if line.is_empty() {
+            continue;
+        }
+        match asked_by(&line) {
+            Ok(question) => print_answer(rt, timetable, calendar, question)?,
+            Err(expected) => println!(rt; "  LINE {}: expected {expected}", index + 1)?,
+        }
+        println!(rt; "")?;
+    }
+    Ok(())
+}

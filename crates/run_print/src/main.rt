@@ -1,0 +1,8 @@
+// A timetable is written back. A stored run of the program.
+#![tactic(auto)]
+
+use std::process::ExitCode;
+
+fn main(rt: HostRuntime) -> ExitCode {
+    office::serve(&rt)
+}
