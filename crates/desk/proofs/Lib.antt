@@ -1,1 +1,3 @@
 mod ExampleLines
+mod FirstWords
+mod OptionsTold

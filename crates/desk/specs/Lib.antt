@@ -1,3 +1,4 @@
+pub mod Commands
 pub mod Days
 pub mod Legs
 pub mod Questions

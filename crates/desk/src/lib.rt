@@ -7,6 +7,7 @@
 #![tactic(auto)]
 
 pub mod asked;
+pub mod command;
 pub mod days;
 pub mod expected;
 pub mod leg;

@@ -2,13 +2,12 @@
 #![tactic(auto)]
 
 mod calendars;
-mod command;
 mod files;
 mod queries;
 mod timetable;
 mod usage;
 
-use command::{Command, Misuse, command_of};
+use desk::command::{Command, Misuse, command_of};
 use std::env;
 use std::process::ExitCode;
 use timetable::Timetable;
@@ -62,7 +61,7 @@ fn search(
     }
 }
 
-fn misused(rt: &HostRuntime, misuse: Misuse) -> anyhow::Result<ExitCode> {
+fn misused(rt: &HostRuntime, misuse: Misuse<&str>) -> anyhow::Result<ExitCode> {
     eprintln!(rt; "pazhenool: {misuse}; `pazhenool --help` tells how to use it")?;
     Ok(ExitCode::from(2))
 }
