@@ -1,7 +1,7 @@
 #!/usr/bin/env python3
 """Makes the table of planted bugs in docs/PROMISES.md: each must-fail edit, and the promise that refused it.
 
-    rt must-fail --anew 2>&1 | python3 tools/planted.py    (or the log of an `rt ci` that tried them)
+    rt ci 2>&1 | python3 tools/planted.py
 
 It reads the lines in which the gate tells why an edit was refused, and prints a table for each crate.
 """
@@ -54,7 +54,7 @@ def refused_by(crate, told):
     proof = PROOF.search(told)
     if proof:
         path = proof[1].split("/")
-        return f"`{path[-1]}`, {path[-2]}: {promise(proof[2])}" if len(path) > 2 and path[-2][0].isupper() else f"`{path[-1]}`: {promise(proof[2])}"
+        return f"`{path[-1].lstrip('+')}`, {path[-2]}: {promise(proof[2])}" if len(path) > 2 and path[-2][0].isupper() else f"`{path[-1].lstrip('+')}`: {promise(proof[2])}"
     lemma = LEMMA.search(told)
     if lemma:
         return f"the lemma `{lemma[2]}` on its definition"
