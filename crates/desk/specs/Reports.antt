@@ -1,12 +1,17 @@
 -- What is shown of a question and of its answer, by the bytes of the words.
 use Rattle.std.specs.Prelude.{ℕ, ◌/◌, ◌%◌, List, ◌++◌, codes, decimal}
 use Rattle.calendar.specs.Dates.{date_of, date_text}
+use Rattle.calendar.specs.Refusals.{number, text_of}
 use Rattle.connection.specs.declared.query.Query.{Query}
 use Rattle.text.specs.Faults as faults
 use Rattle.text.specs.declared.fault.Fault.{Fault}
 use Rattle.desk.specs.Tariffs.{tariff_name}
 use Rattle.desk.specs.declared.question.Question.{Question}
+use Rattle.desk.specs.Wanted.{wanted}
 use Rattle.desk.specs.declared.report.Leg.{Leg}
+use Rattle.desk.specs.declared.report.RowFault.{RowFault}
+use Rattle.desk.specs.declared.report.Wrong.{Wrong}
+use Rattle.desk.specs.declared.report.Wrong.TheVariants.{Unread, Refused}
 
 -- minutes from midnight as hours and minutes, two digits each, as 07:50 and 24:30
 abbrev pub clock_text : ℕ → List ℕ
@@ -33,3 +38,11 @@ leg_text l =
 -- where a text is broken, and why
 abbrev pub fault_text : Fault → List ℕ
 fault_text f = decimal f.line ++ codes ":" ++ decimal f.column ++ codes ": refused " ++ decimal (faults.number f.cause) ++ codes ": " ++ faults.words_of f.cause
+
+-- what is wrong with a line of a calendar's file, and which line
+abbrev pub wrong_text : Wrong → List ℕ
+wrong_text (Unread expected) = codes "expected " ++ wanted expected
+wrong_text (Refused r) = codes "refused " ++ (decimal (number r) ++ (codes ": " ++ text_of r))
+
+abbrev pub row_fault_text : RowFault → List ℕ
+row_fault_text f = decimal f.line ++ (codes ": " ++ wrong_text f.wrong)

@@ -1,9 +1,11 @@
 // What is shown of a question and of its answer.
 ghost use Rattle.std.specs.Prelude.{◌≡◌, Some};
-ghost use Rattle.desk.specs.Reports.{clock_text, way_text, question_text, leg_text, fault_text};
+ghost use Rattle.desk.specs.Reports.{clock_text, way_text, question_text, leg_text, fault_text, wrong_text, row_fault_text};
 
+use crate::expected::Expected;
 use crate::question::Question;
 use calendar::date::Date;
+use calendar::refusal::Refusal;
 use connection::query::Query;
 use std::fmt;
 use text::fault::Fault;
@@ -31,6 +33,22 @@ pub struct Leg {
 // A fault in a text, as LINE:COLUMN and why.
 #[derive(Clone, Copy, PartialEq, Eq, Debug)]
 pub struct Found(pub Fault);
+
+// What is wrong with a line of a calendar's file.
+#[derive(Clone, Copy, PartialEq, Eq, Debug)]
+pub enum Wrong {
+    // it cannot be read
+    Unread(Expected),
+    // the calendar refuses it
+    Refused(Refusal),
+}
+
+// Where a calendar's file is wrong, as LINE and why.
+#[derive(Clone, Copy, PartialEq, Eq, Debug)]
+pub struct RowFault {
+    pub line: usize,
+    pub wrong: Wrong,
+}
 
 impl fmt::Display for Time {
     ghost output = { λ t. Some (clock_text t.0) };
@@ -104,5 +122,29 @@ impl fmt::Display for Found {
         } = self.0;
         let number = cause.number();
         write!(f, "{line}:{column}: refused {number}: {cause}")
+    }
+}
+
+impl fmt::Display for Wrong {
+    ghost output = { λ w. Some (wrong_text w) };
+
+    fn fmt<W: fmt::Write>(&self, f: &mut fmt::Formatter<W>) -> fmt::Result {
+        match self {
+            Wrong::Unread(expected) => write!(f, "expected {expected}"),
+            Wrong::Refused(refusal) => {
+                let number = refusal.number();
+                write!(f, "refused {number}: {refusal}")
+            }
+        }
+    }
+}
+
+impl fmt::Display for RowFault {
+    ghost output = { λ r. Some (row_fault_text r) };
+
+    fn fmt<W: fmt::Write>(&self, f: &mut fmt::Formatter<W>) -> fmt::Result {
+        let line = self.line;
+        let wrong = self.wrong;
+        write!(f, "{line}: {wrong}")
     }
 }

@@ -5,20 +5,14 @@ use anyhow::anyhow;
 use calendar::Calendar;
 use calendar::dated::{DateRow, Dated};
 use calendar::exceptions::Exceptions;
-use calendar::refusal::Refusal;
 use calendar::weekly::Weekly;
-use desk::expected::Expected;
+use desk::report::{RowFault, Wrong};
 use desk::rows::{date_row, exception_row};
 
-// A line of a calendar's file cannot be read.
-fn unread(file: &str, number: usize, expected: Expected) -> anyhow::Error {
-    anyhow!("{file}:{number}: expected {expected}")
-}
-
-// A line of a calendar's file is refused.
-fn refused(file: &str, number: usize, refusal: Refusal) -> anyhow::Error {
-    let by = refusal.number();
-    anyhow!("{file}:{number}: refused {by}: {refusal}")
+// The line with this number is wrong.
+fn wrong(file: &str, line: usize, wrong: Wrong) -> anyhow::Error {
+    let fault = RowFault { line, wrong };
+    anyhow!("{file}:{fault}")
 }
 
 // The rows of a file of dates. Empty lines say nothing, here and below.
@@ -29,8 +23,12 @@ fn date_rows(rt: &HostRuntime, file: &str) -> anyhow::Result<Vec<DateRow>> {
         if line.is_empty() {
             continue;
         }
-        let row = date_row(line).map_err(|expected| unread(file, index + 1, expected))?;
-        Dated::new(&[row]).map_err(|refusal| refused(file, index + 1, refusal))?;
+        let row = date_row(line).map_err(|expected| wrong(
+            file,
+            index + 1,
+            Wrong::Unread(expected),
+        ))?;
+        Dated::new(&[row]).map_err(|refusal| wrong(file, index + 1, Wrong::Refused(refusal)))?;
         rows.push(row)?;
     }
     Ok(rows)
@@ -48,10 +46,14 @@ fn with_exceptions<C: Calendar + Drop>(
         if line.is_empty() {
             continue;
         }
-        let row = exception_row(line).map_err(|expected| unread(file, index + 1, expected))?;
+        let row = exception_row(line).map_err(|expected| wrong(
+            file,
+            index + 1,
+            Wrong::Unread(expected),
+        ))?;
         calendar
             .note(row.code, row.day, row.runs)
-            .map_err(|refusal| refused(file, index + 1, refusal))?;
+            .map_err(|refusal| wrong(file, index + 1, Wrong::Refused(refusal)))?;
     }
     Ok(calendar)
 }
