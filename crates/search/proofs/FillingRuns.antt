@@ -1,5 +1,5 @@
 -- The labels of a run, filled in stop by stop, settle its stops.
-use Rattle.std.proofs.Common.{◌≡◌, ℕ, suc, ◌+◌, ◌-◌, ◌*◌, ◌<◌, ◌≤◌, Bool, true, false, cond, ◌||◌, ◌≢◌, ◌⊎◌, List, length, get_or, set, is_some, Some, None, Option, sym, refl, ap, ◌∙◌, subst, ap₂, inl, inr, add_assoc, add-one, arith, get_or-set_other, get_or-set_same}
+use Rattle.std.proofs.Common.{◌≡◌, ℕ, suc, ◌+◌, ◌-◌, ◌*◌, ◌<◌, ◌≤◌, Bool, true, false, cond, ◌||◌, T, ◌⊎◌, List, length, set, is_some, Some, None, Option, sym, refl, ap, ◌∙◌, subst, ap₂, inl, inr, add_assoc, add-one, arith}
 use Rattle.std.proofs.lemmas.Bool.{cases_lt}
 use Rattle.tariff.specs.Meaning.{Meaning}
 use Rattle.book.specs.Answers.{train_row}
@@ -12,40 +12,38 @@ use Rattle.connection.specs.Choosing.{mapped, cheaper}
 use Rattle.connection.specs.Labels.{hop_at, stand_at}
 use Rattle.connection.specs.Prices.{hop, stand}
 use Rattle.connection.specs.Rides.{stops_at, stop_of}
-use Rattle.connection.specs.Settled.{extended, no_dearer, SettlesBoarding}
+use Rattle.connection.specs.Settled.{extended, no_dearer, Sooner, Hopeless, Excused, SettlesBoarding}
+use Rattle.connection.specs.Ways.{Arrives}
 use Rattle.connection.specs.declared.label.Label.{Label}
 use Rattle.connection.specs.declared.query.Query.{Query}
 use Rattle.connection.specs.declared.ride.Shift.{Shift}
-use Rattle.connection.proofs.Onward.{settles_first_stop, settles_next_stop, settles_beaten}
+use Rattle.connection.proofs.Onward.{settles_first_stop, settles_next_stop, settles_excused}
 use Rattle.connection.proofs.Times.{Punctual, on_time}
+use Rattle.search.specs.Ends.{ends_no_dearer, known_total, is_end, end_here, Known, NoDearer}
 use Rattle.search.specs.Layers.{row_of, Trail, Holds, Filled, UnchangedBelow, NoLabelBetween, SettledBetween, Fills, RunAsked, run_begins, run_ends}
-use Rattle.search.specs.Records.{blank, record_of, label_of}
-use Rattle.search.specs.Working.{may_use, number, place, layer_at, part_at, label_at, label_in, beaten, unless_beaten}
+use Rattle.search.specs.Records.{record_of, label_of}
+use Rattle.search.specs.Working.{may_use, number, place, layer_at, part_at, label_at, label_in, hopeless, beaten, if_worth_following}
+use Rattle.search.specs.declared.ends.End.{End}
 use Rattle.search.specs.declared.record.WorkRecord.{WorkRecord}
 use Rattle.search.proofs.Basis.{Basis}
 use Rattle.search.proofs.BeatenLabels.{Beater, beater}
 use Rattle.search.proofs.Chaining.{not_some}
-use Rattle.search.proofs.LabelsInRecords.{label_kept}
+use Rattle.search.proofs.KnownEnds.{cheaper_no_dearer, known_more}
 use Rattle.search.proofs.RowsAreTrains.{fits, count_is, stop_is, same_row, same_place}
-use Rattle.search.proofs.Unchanged.{label_same, unchanged_sym, boarding_same, filled_same}
+use Rattle.search.proofs.Unchanged.{label_same, unchanged_sym, boarding_same, filled_same, holds_still, filled_still}
+use Rattle.search.proofs.WrittenRecords.{written_same, written_here, unchanged_still}
 
 pub or_none : (a b : Bool) → (a || b) ≡ false → (a ≡ false) × (b ≡ false)
 or_none true b e = cc
 or_none false b e = (refl, e)
 
--- ---- one record is written
-module _ {A : Type 0} (table : List (WorkRecord A)) (at : ℕ) (o : Option (Label A)) where
-  pub written_same : (z : ℕ) → (z < at) ⊎ (at < z) → get_or (set table at (record_of o)) z blank ≡ get_or table z blank
-  written_same z (inl h) = let ne : z ≢ at = omega arith in get_or-set_other table at z (record_of o) blank ne
-  written_same z (inr h) = let ne : z ≢ at = omega arith in get_or-set_other table at z (record_of o) blank ne
+-- what the tests say of a label
+module _ {A : Type 0} (m : Meaning A) where
+  is_hopeless : (known : Option A) (t : A) → hopeless m known t ≡ true → Hopeless m known t
+  is_hopeless None t e = let z : ◌≡◌ {A = ℕ} 0 1 = cc in absurd (omega arith)
+  is_hopeless (Some best) t e = subst T (sym e) tt
 
-  pub written_here : at < length table → label_at (set table at (record_of o)) at ≡ o
-  written_here h = ap label_of (get_or-set_same table at (record_of o) blank h) ∙ label_kept o
-
-pub unchanged_still : {A : Type 0} (b i : ℕ) (old new next : List (WorkRecord A)) (o : Option (Label A)) → UnchangedBelow b old new → next ≡ set new (b + i) (record_of o) → UnchangedBelow b old next
-unchanged_still b i old new next o same e z h = ap (λ t. get_or t z blank) e ∙ written_same new (b + i) o z (inl (omega arith)) ∙ same z h
-
-module _ {A : Type 0} (m : Meaning A) (q : Query) (rows : List TrainRow) (stops : List StopRow) (layer n : ℕ) (s : Shift) (usable : Bool) where
+module _ {A : Type 0} (m : Meaning A) (q : Query) (rows : List TrainRow) (stops : List StopRow) (layer n : ℕ) (s : Shift) (usable : Bool) (before : Option (End A)) where
   abbrev size : ℕ
   size = length stops
 
@@ -60,17 +58,22 @@ module _ {A : Type 0} (m : Meaning A) (q : Query) (rows : List TrainRow) (stops 
 
   -- if the calendar says so, and the layers before are filled
   abbrev When : (Pairs → Type 0) → List (WorkRecord A) → Type 0
-  When P table = (runs : Pairs) → usable ≡ may_use runs q (train_row n rows) s → Filled m runs q rows stops table layer → P runs
+  When P table = (runs : Pairs) → usable ≡ may_use runs q (train_row n rows) s → Filled m runs q rows stops (known_total before) table layer → P runs
 
-  -- the run up to its stop i
-  pub record FilledTo (old new : List (WorkRecord A)) (i : ℕ) (found : Bool) (aboard : Option (Label A)) : Type 0 where
+  -- the run up to its stop i; `before` was the cheapest known end ahead of it, `known` is it now
+  pub record FilledTo (old new : List (WorkRecord A)) (i : ℕ) (found : Bool) (aboard : Option (Label A)) (known : Option (End A)) : Type 0 where
     pub unchanged : UnchangedBelow start old new
     pub nothing : found ≡ false → (j : ℕ) → j < i → label_at new (start + j) ≡ None
-    pub settled : When (λ runs. (j : ℕ) → j < i → Holds m runs q rows stops old layer n s j (label_at new (start + j))) old
-    pub coming : When (λ runs. i < count → Holds m runs q rows stops old layer n s i aboard) old
+    pub known_end : Known stops old q.destination (layer_at size layer + place size s first) m before → Known stops new q.destination (start + i) m known
+    pub no_dearer : NoDearer m before known
+    pub settled : When (λ runs. (j : ℕ) → j < i → Holds m runs q rows stops (known_total known) old layer n s j (label_at new (start + j))) old
+    pub coming : When (λ runs. i < count → Holds m runs q rows stops (known_total known) old layer n s i aboard) old
 
   layer_before_start : layer_at size layer ≤ start
   layer_before_start = omega arith
+
+  start_is : start ≡ layer_at size layer + place size s first
+  start_is = add_assoc (layer_at size layer) (number s * size) first
 
   module _ (basis : Basis m rows stops) (ln : n < length rows) where
     abbrev trains : List Train
@@ -79,42 +82,69 @@ module _ {A : Type 0} (m : Meaning A) (q : Query) (rows : List TrainRow) (stops 
     punctual : (k : ℕ) → Punctual (stops_at trains k)
     punctual = on_time trains basis.timetable.lawful
 
-    pub filled_none : (old : List (WorkRecord A)) → FilledTo old old 0 false None
+    pub filled_none : (old : List (WorkRecord A)) → FilledTo old old 0 false None before
     filled_none old =
         record {
           unchanged = λ z h. refl;
           nothing = λ e j h. absurd (omega arith);
+          known_end = subst (λ (x : ℕ). Known stops old q.destination x m before) (omega (arith, start_is));
+          no_dearer = λ t h. h;
           settled = λ runs may filled j h. absurd (omega arith);
-          coming = λ runs may filled h. settles_first_stop m basis.connex basis.transitive basis.keeps basis.starts basis.counts trains punctual runs q (Trail rows size old layer) layer n s;
+          coming = λ runs may filled h. settles_first_stop m basis.connex basis.transitive basis.grows basis.keeps basis.starts basis.counts trains punctual runs q (known_total before) (Trail rows size old layer) layer n s;
         }
 
-    -- ---- a label that fewer changes beat is dropped
-    module _ (old new : List (WorkRecord A)) (unchanged : UnchangedBelow start old new) (runs : Pairs) (filled : Filled m runs q rows stops old layer) (i : ℕ) (li : i < count) where
-      dropped : (l : Label A) → Beater m size new (place size s (row_of rows n i)) l.total layer → Holds m runs q rows stops old layer n s i (Some l) → Holds m runs q rows stops old layer n s i None
-      dropped l b h =
+    -- ---- a label that is not worth following is dropped
+    module _ (old new : List (WorkRecord A)) (unchanged : UnchangedBelow start old new) (known : Option (End A)) (runs : Pairs) (filled : Filled m runs q rows stops (known_total before) old layer) (i : ℕ) (li : i < count) where
+      abbrev Held : Option (Label A) → Type 0
+      Held = Holds m runs q rows stops (known_total known) old layer n s i
+
+      dropped : (l : Label A) → Excused m (λ j. Arrives m trains runs q j n s i) layer (known_total known) l.total → Held (Some l) → Held None
+      dropped l e h =
+          settles_excused m basis.connex basis.transitive basis.grows basis.keeps basis.starts basis.counts trains punctual runs q (known_total known) (Trail rows size old layer) layer n s i l e h
+
+      sooner : (l : Label A) → Beater m size new (place size s (row_of rows n i)) l.total layer → Sooner m (λ j. Arrives m trains runs q j n s i) layer l.total
+      sooner l b =
           let k = b.in_layer in
           let row = row_of rows n i in
           let inside = fits rows stops basis.timetable.ordered n ln in
           let held_new : label_in size new k s row ≡ Some b.label = ap (label_at new) (add_assoc (layer_at size k) (number s * size) row) ∙ b.held in
           let same = label_same size k layer s row old new b.earlier (omega arith) (λ z w. unchanged z (omega (arith, layer_before_start))) in
-          let there = subst (Holds m runs q rows stops old k n s i) (sym same ∙ held_new) (filled k n s i b.earlier ln li) in
-          settles_beaten m basis.connex basis.transitive basis.keeps basis.starts basis.counts trains punctual runs q (Trail rows size old layer) layer n s i l k b.label.total b.earlier there.is_one.0 b.no_dearer h
+          let there = subst (Holds m runs q rows stops (known_total before) old k n s i) (sym same ∙ held_new) (filled k n s i b.earlier ln li) in
+          (k, b.earlier, b.label.total, there.is_one.0, b.no_dearer)
 
-      kept : (o : Option (Label A)) → Holds m runs q rows stops old layer n s i o → Holds m runs q rows stops old layer n s i (unless_beaten m size new (place size s (row_of rows n i)) layer o)
+      kept : (o : Option (Label A)) → Held o → Held (if_worth_following m size new (place size s (row_of rows n i)) (known_total known) layer o)
       kept None h = h
-      kept (Some l) h = go (beaten m size new (place size s (row_of rows n i)) layer l.total) refl
+      kept (Some l) h =
+          go (hopeless m (known_total known) l.total) refl (beaten m size new (place size s (row_of rows n i)) layer l.total) refl
         where
-          go : (b : Bool) → beaten m size new (place size s (row_of rows n i)) layer l.total ≡ b → Holds m runs q rows stops old layer n s i (cond b None (Some l))
-          go true e = dropped l (beater m size new (place size s (row_of rows n i)) l.total layer e) h
-          go false e = h
+          go : (x : Bool) → hopeless m (known_total known) l.total ≡ x → (y : Bool) → beaten m size new (place size s (row_of rows n i)) layer l.total ≡ y → Held (cond (x || y) None (Some l))
+          go true e y f = dropped l (inr (is_hopeless m (known_total known) l.total e)) h
+          go false e true f = dropped l (inl (sooner l (beater m size new (place size s (row_of rows n i)) l.total layer f))) h
+          go false e false f = h
 
     -- ---- one stop more
-    module _ (old new : List (WorkRecord A)) (i : ℕ) (found : Bool) (aboard KeptLabel : Option (Label A)) (state : FilledTo old new i found aboard) (li : i < count) (room : start + i < length new) (is_kept : KeptLabel ≡ unless_beaten m size new (place size s (row_of rows n i)) layer aboard) (next : List (WorkRecord A)) (is_next : next ≡ set new (start + i) (record_of KeptLabel)) where
+    module _ (old new : List (WorkRecord A)) (i : ℕ) (found : Bool) (aboard KeptLabel : Option (Label A)) (known known' : Option (End A)) (state : FilledTo old new i found aboard known) (li : i < count) (room : start + i < length new) (is_kept : KeptLabel ≡ if_worth_following m size new (place size s (row_of rows n i)) (known_total known) layer aboard) (next : List (WorkRecord A)) (is_next : next ≡ set new (start + i) (record_of KeptLabel)) (is_known : known' ≡ cheaper (ends_no_dearer m) known (end_here (is_end (stop_at stops (row_of rows n i)) q.destination) layer (place size s (row_of rows n i)) KeptLabel)) where
       next_unchanged : UnchangedBelow start old next
       next_unchanged = unchanged_still start i old new next KeptLabel state.unchanged is_next
 
-      kept_holds : When (λ runs. Holds m runs q rows stops old layer n s i KeptLabel) old
-      kept_holds runs may filled = subst (Holds m runs q rows stops old layer n s i) (sym is_kept) (kept old new state.unchanged runs filled i li aboard (state.coming runs may filled li))
+      abbrev Still : Pairs → ℕ → Option (Label A) → Type 0
+      Still runs = Holds m runs q rows stops (known_total known') old layer n s
+
+      better : NoDearer m known known'
+      better t h = subst (λ (e : Option (End A)). Hopeless m (known_total e) t) (sym is_known) (cheaper_no_dearer m basis.connex basis.transitive known _ t h)
+
+      still : (runs : Pairs) (j : ℕ) (o : Option (Label A)) → Holds m runs q rows stops (known_total known) old layer n s j o → Still runs j o
+      still runs j o h = holds_still m runs q rows stops basis.timetable.ordered known known' better layer n s j o old h
+
+      next_known : Known stops old q.destination (layer_at size layer + place size s first) m before → Known stops next q.destination (start + (i + 1)) m known'
+      next_known h =
+          let inside = fits rows stops basis.timetable.ordered n ln in
+          let at_is : start + i ≡ layer_at size layer + place size s (row_of rows n i) = omega (arith, start_is, add_assoc (number s * size) first i) in
+          let more = known_more m basis.connex basis.transitive stops q.destination layer s (row_of rows n i) (start + i) (omega arith) at_is new next KeptLabel room is_next known known' is_known (state.known_end h) in
+          subst (λ (x : ℕ). Known stops next q.destination x m known') (add_assoc start i 1) more
+
+      kept_holds : When (λ runs. Still runs i KeptLabel) old
+      kept_holds runs may filled = still runs i KeptLabel (subst (Holds m runs q rows stops (known_total known) old layer n s i) (sym is_kept) (kept old new state.unchanged known runs filled i li aboard (state.coming runs may filled li)))
 
       label_before : (j : ℕ) → j < i → label_at next (start + j) ≡ label_at new (start + j)
       label_before j h = ap (λ t. label_at t (start + j)) is_next ∙ ap label_of (written_same new (start + i) KeptLabel (start + j) (inl (omega arith)))
@@ -129,30 +159,34 @@ module _ {A : Type 0} (m : Meaning A) (q : Query) (rows : List TrainRow) (stops 
               let e : i ≡ j = omega arith in
               subst (λ (k : ℕ). P k (label_at next (start + k))) e (subst (P i) (sym (ap (λ t. label_at t (start + i)) is_next ∙ written_here new (start + i) KeptLabel room)) here)
 
-      pub filled_more : (found' : Bool) (aboard' : Option (Label A)) → found' ≡ (found || is_some KeptLabel) → When (λ runs. i + 1 < count → Holds m runs q rows stops old layer n s (i + 1) aboard') old → FilledTo old next (i + 1) found' aboard'
+      pub filled_more : (found' : Bool) (aboard' : Option (Label A)) → found' ≡ (found || is_some KeptLabel) → When (λ runs. i + 1 < count → Still runs (i + 1) aboard') old → FilledTo old next (i + 1) found' aboard' known'
       filled_more found' aboard' ef coming =
           record {
             unchanged = next_unchanged;
             nothing = λ e. let p = or_none found (is_some KeptLabel) (sym ef ∙ e) in up_to (λ j o. o ≡ None) (state.nothing p.0) (not_some KeptLabel p.1);
-            settled = λ runs may filled. up_to (λ j o. Holds m runs q rows stops old layer n s j o) (state.settled runs may filled) (kept_holds runs may filled);
+            known_end = next_known;
+            no_dearer = λ t h. better t (state.no_dearer t h);
+            settled = λ runs may filled. up_to (Still runs) (λ j l. still runs j _ (state.settled runs may filled j l)) (kept_holds runs may filled);
             coming = coming;
           }
 
       -- ---- on to the next stop
-      pub comes_next : (stop there : StopRow) (boarded aboard' : Option (Label A)) → stop ≡ stop_at stops (row_of rows n i) → there ≡ stop_at stops (row_of rows n (i + 1)) → i + 1 < count → When (λ runs. SettlesBoarding m trains runs q (Trail rows size next layer) layer n s i boarded) next → aboard' ≡ mapped (extended m (hop stop there)) (cheaper (no_dearer m) boarded (mapped (extended m (stand stop)) KeptLabel)) → When (λ runs. i + 1 < count → Holds m runs q rows stops old layer n s (i + 1) aboard') old
+      pub comes_next : (stop there : StopRow) (boarded aboard' : Option (Label A)) → stop ≡ stop_at stops (row_of rows n i) → there ≡ stop_at stops (row_of rows n (i + 1)) → i + 1 < count → ((runs : Pairs) (best : Option A) → usable ≡ may_use runs q (train_row n rows) s → Filled m runs q rows stops best next layer → SettlesBoarding m trains runs q (Trail rows size next layer) best layer n s i boarded) → aboard' ≡ mapped (extended m (hop stop there)) (cheaper (no_dearer m) boarded (mapped (extended m (stand stop)) KeptLabel)) → When (λ runs. i + 1 < count → Still runs (i + 1) aboard') old
       comes_next stop there boarded aboard' at_stop at_there on boards ea runs may filled h =
           let ss = stops_at trains n in
           let below : UnchangedBelow (layer_at size layer) old next = λ z w. next_unchanged z (omega (arith, layer_before_start)) in
           let back : UnchangedBelow (layer_at size layer) next old = unchanged_sym (layer_at size layer) old next below in
-          let b = boarding_same m runs q rows stops basis.timetable.ordered layer n s i boarded next old back (boards runs may (filled_same m runs q rows stops basis.timetable.ordered layer old next below filled)) in
+          let best = known_total known' in
+          let later = filled_still m runs q rows stops basis.timetable.ordered before known' (λ t w. better t (state.no_dearer t w)) layer old filled in
+          let b = boarding_same m runs q rows stops basis.timetable.ordered best layer n s i boarded next old back (boards runs best may (filled_same m runs q rows stops basis.timetable.ordered best layer old next below later)) in
           let is_stop : stop_of trains n i ≡ stop = stop_is rows stops basis.timetable.ordered n i ln li ∙ sym at_stop in
           let is_there : stop_of trains n (suc i) ≡ there = stop_is rows stops basis.timetable.ordered n (suc i) ln (omega arith) ∙ ap (λ j. stop_at stops (row_of rows n j)) (sym (add-one i)) ∙ sym at_there in
           let long : suc i < length ss = omega (arith, count_is rows stops basis.timetable.ordered n ln) in
-          let goes = settles_next_stop m basis.connex basis.transitive basis.keeps basis.starts basis.counts trains punctual runs q (Trail rows size old layer) layer n s i long boarded KeptLabel b (kept_holds runs may filled) in
+          let goes = settles_next_stop m basis.connex basis.transitive basis.grows basis.keeps basis.starts basis.counts trains punctual runs q best (Trail rows size old layer) layer n s i long boarded KeptLabel b (kept_holds runs may filled) in
           let same : mapped (extended m (hop_at ss i)) (cheaper (no_dearer m) boarded (mapped (extended m (stand_at ss i)) KeptLabel)) ≡ aboard' =
           ap₂ (λ (x y : StopRow). mapped (extended m (hop x y)) (cheaper (no_dearer m) boarded (mapped (extended m (stand x)) KeptLabel))) is_stop is_there ∙ sym ea
           in
-          subst (λ (j : ℕ). Holds m runs q rows stops old layer n s j aboard') (sym (add-one i)) (subst (Holds m runs q rows stops old layer n s (suc i)) same goes)
+          subst (λ (j : ℕ). Still runs j aboard') (sym (add-one i)) (subst (Still runs (suc i)) same goes)
 
     -- ---- the whole run
     -- a place between the run's first and last is one of its stops
@@ -167,7 +201,7 @@ module _ {A : Type 0} (m : Meaning A) (q : Query) (rows : List TrainRow) (stops 
         let who = same_row rows stops basis.timetable.ordered n i n' i' ln li ln' li' same.1 in
         subst (λ (k : ℕ). P k s' i') who.0 (subst (λ (t : Shift). P n t i') same.0 (subst (P n s) who.1 (all i li)))
 
-    module _ (old new : List (WorkRecord A)) (found : Bool) (aboard : Option (Label A)) (state : FilledTo old new count found aboard) where
+    module _ (old new : List (WorkRecord A)) (found : Bool) (aboard : Option (Label A)) (known : Option (End A)) (state : FilledTo old new count found aboard known) where
       run_unchanged : UnchangedBelow (layer_at size layer + place size s first) old new
       run_unchanged z h = state.unchanged z (omega (arith, add_assoc (layer_at size layer) (number s * size) first))
 
@@ -178,10 +212,15 @@ module _ {A : Type 0} (m : Meaning A) (q : Query) (rows : List TrainRow) (stops 
       run_nothing e n' s' i' ln' li' low high =
           of_the_run (λ k t j. label_in size new layer t (row_of rows k j) ≡ None) n' s' i' ln' li' low high (λ i li. sym (row_label i) ∙ state.nothing e i li)
 
-      run_settled : When (λ runs. SettledBetween m q rows stops runs old new layer (place size s first) (place size s (row_of rows n count))) old
+      run_settled : When (λ runs. SettledBetween m q rows stops runs (known_total known) old new layer (place size s first) (place size s (row_of rows n count))) old
       run_settled runs may filled n' s' i' ln' li' low high =
-          of_the_run (λ k t j. Holds m runs q rows stops old layer k t j (label_in size new layer t (row_of rows k j))) n' s' i' ln' li' low high
-          (λ i li. subst (Holds m runs q rows stops old layer n s i) (row_label i) (state.settled runs may filled i li))
+          of_the_run (λ k t j. Holds m runs q rows stops (known_total known) old layer k t j (label_in size new layer t (row_of rows k j))) n' s' i' ln' li' low high
+          (λ i li. subst (Holds m runs q rows stops (known_total known) old layer n s i) (row_label i) (state.settled runs may filled i li))
 
-      pub fills_run : Fills m q rows stops layer (RunAsked q (train_row n rows) s usable) old new (run_begins rows size n s) (run_ends rows size n s) found
-      fills_run = record { unchanged = run_unchanged; nothing = run_nothing; settled = run_settled }
+      run_known : Known stops old q.destination (layer_at size layer + place size s first) m before → Known stops new q.destination (layer_at size layer + place size s (row_of rows n count)) m known
+      run_known h =
+          let end : start + count ≡ layer_at size layer + place size s (row_of rows n count) = omega (arith, start_is, add_assoc (number s * size) first count) in
+          subst (λ (x : ℕ). Known stops new q.destination x m known) end (state.known_end h)
+
+      pub fills_run : Fills m q rows stops layer (RunAsked q (train_row n rows) s usable) old new (run_begins rows size n s) (run_ends rows size n s) found before known
+      fills_run = record { unchanged = run_unchanged; nothing = run_nothing; known = run_known; no_dearer = state.no_dearer; settled = run_settled }

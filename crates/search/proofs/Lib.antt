@@ -1,13 +1,13 @@
 mod Basis
 mod BeatenLabels
 mod BestChange
-mod BestEnd
 mod Chaining
 mod CheapestEnd
 mod Chosen
 mod FillingLayers
 mod FillingRuns
 mod Guaranteed
+mod KnownEnds
 mod LabelsInRecords
 mod Layering
 mod Prefix
@@ -15,3 +15,4 @@ mod RowsAreTrains
 mod TrailsAreWritten
 mod Unchanged
 mod WaysToBoard
+mod WrittenRecords

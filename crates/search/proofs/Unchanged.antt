@@ -1,4 +1,4 @@
--- What the layers before a layer tell is the same in two tables that agree on them.
+-- What the layers before a layer tell is the same in two tables that agree on them, and stays so where a cheaper end is known.
 use Rattle.std.proofs.Common.{◌≡◌, ℕ, zero, suc, ◌+◌, ◌*◌, ◌<◌, ◌≤◌, List, [], ◌∷◌, ◌++◌, length, get_or, is_some, Some, None, Option, sym, ap, ◌∙◌, subst, add_assoc, arith}
 use Rattle.tariff.specs.Meaning.{Meaning}
 use Rattle.book.specs.Rules.{stop_at}
@@ -8,18 +8,21 @@ use Rattle.book.specs.declared.rows.TrainRow.{TrainRow}
 use Rattle.calendar.specs.Pairs.{Pairs}
 use Rattle.connection.specs.Settled.{SettlesBoarding}
 use Rattle.connection.specs.Underway.{ride}
+use Rattle.connection.specs.Ways.{Arrives}
 use Rattle.connection.specs.declared.label.Label.{Label}
 use Rattle.connection.specs.declared.query.Query.{Query}
 use Rattle.connection.specs.declared.ride.Ride.{Ride}
 use Rattle.connection.specs.declared.ride.Shift.{Shift}
-use Rattle.connection.proofs.Settling.{settles_same}
+use Rattle.connection.proofs.Settling.{settles_same, excused_more}
 use Rattle.search.specs.Chains.{Link, Chained, Linked}
+use Rattle.search.specs.Ends.{known_total, NoDearer}
 use Rattle.search.specs.Layers.{InOrder, row_of, Spot, Trail, Holds, Filled, UnchangedBelow}
 use Rattle.search.specs.Records.{blank, label_of}
 use Rattle.search.specs.Working.{number, layer_at, part_at, label_in}
 use Rattle.search.specs.Shifts.{on}
 use Rattle.search.specs.declared.by_shift.ByShift.{ByShift}
 use Rattle.search.specs.declared.chains.Chain.{Chain}
+use Rattle.search.specs.declared.ends.End.{End}
 use Rattle.search.specs.declared.record.WorkRecord.{WorkRecord}
 use Rattle.search.proofs.Layering.{next_layer, layers_below}
 use Rattle.search.proofs.RowsAreTrains.{fits, place_below}
@@ -83,18 +86,27 @@ module _ {A : Type 0} (m : Meaning A) (runs : Pairs) (q : Query) (rows : List Tr
         t.6 ∙ ap (λ b. t.4 ++ (ride t.0 t.1 b t.2 ∷ [])) (sym (ap (λ (r : WorkRecord A). r.board) same)),
       )
 
-  pub holds_same : (k n : ℕ) (s : Shift) (i : ℕ) (o : Option (Label A)) (old new : List (WorkRecord A)) → UnchangedBelow (layer_at (length stops) k) old new → Holds m runs q rows stops old k n s i o → Holds m runs q rows stops new k n s i o
-  holds_same k n s i o old new u h =
+  pub holds_same : (known : Option A) (k n : ℕ) (s : Shift) (i : ℕ) (o : Option (Label A)) (old new : List (WorkRecord A)) → UnchangedBelow (layer_at (length stops) k) old new → Holds m runs q rows stops known old k n s i o → Holds m runs q rows stops known new k n s i o
+  holds_same known k n s i o old new u h =
       settles_same m _ _ _ _ _ _ o (λ t x. x) (λ t x. x) (λ t d. d) (λ l x. (x.0, x.1, trail_same k l.from x.0.boarded.rides old new u x.2)) h
 
-  pub boarding_same : (k n : ℕ) (s : Shift) (i : ℕ) (o : Option (Label A)) (old new : List (WorkRecord A)) → UnchangedBelow (layer_at (length stops) k) old new → SettlesBoarding m (trains_in rows stops) runs q (Trail rows (length stops) old k) k n s i o → SettlesBoarding m (trains_in rows stops) runs q (Trail rows (length stops) new k) k n s i o
-  boarding_same k n s i o old new u h =
+  pub boarding_same : (known : Option A) (k n : ℕ) (s : Shift) (i : ℕ) (o : Option (Label A)) (old new : List (WorkRecord A)) → UnchangedBelow (layer_at (length stops) k) old new → SettlesBoarding m (trains_in rows stops) runs q (Trail rows (length stops) old k) known k n s i o → SettlesBoarding m (trains_in rows stops) runs q (Trail rows (length stops) new k) known k n s i o
+  boarding_same known k n s i o old new u h =
       settles_same m _ _ _ _ _ _ o (λ t x. x) (λ t x. x) (λ t d. d) (λ l x. (x.0, x.1, trail_same k l.from x.0.rides old new u x.2)) h
 
-  pub filled_same : (layers : ℕ) (old new : List (WorkRecord A)) → UnchangedBelow (layer_at (length stops) layers) old new → Filled m runs q rows stops old layers → Filled m runs q rows stops new layers
-  filled_same layers old new u f k n s i lk ln li =
+  pub filled_same : (known : Option A) (layers : ℕ) (old new : List (WorkRecord A)) → UnchangedBelow (layer_at (length stops) layers) old new → Filled m runs q rows stops known old layers → Filled m runs q rows stops known new layers
+  filled_same known layers old new u f k n s i lk ln li =
       let size = length stops in
       let row = row_of rows n i in
       let inside = fits rows stops ok n ln in
       let less : UnchangedBelow (layer_at size k) old new = unchanged_less (layer_at size layers) (layer_at size k) old new (layers_below size k layers (omega arith)) u in
-      subst (Holds m runs q rows stops new k n s i) (sym (label_same size k layers s row old new lk (omega arith) u)) (holds_same k n s i (label_in size old k s row) old new less (f k n s i lk ln li))
+      subst (Holds m runs q rows stops known new k n s i) (sym (label_same size k layers s row old new lk (omega arith) u)) (holds_same known k n s i (label_in size old k s row) old new less (f k n s i lk ln li))
+
+  -- ---- where a cheaper end is known
+  module _ (before after : Option (End A)) (better : NoDearer m before after) where
+    pub holds_still : (k n : ℕ) (s : Shift) (i : ℕ) (o : Option (Label A)) (table : List (WorkRecord A)) → Holds m runs q rows stops (known_total before) table k n s i o → Holds m runs q rows stops (known_total after) table k n s i o
+    holds_still k n s i o table h =
+        settles_same m _ _ _ _ _ _ o (λ t x. x) (λ t x. x) (excused_more m (λ j. Arrives m (trains_in rows stops) runs q j n s i) k (known_total before) (known_total after) better) (λ l x. x) h
+
+    pub filled_still : (layers : ℕ) (table : List (WorkRecord A)) → Filled m runs q rows stops (known_total before) table layers → Filled m runs q rows stops (known_total after) table layers
+    filled_still layers table f k n s i lk ln li = holds_still k n s i (label_in (length stops) table k s (row_of rows n i)) table (f k n s i lk ln li)

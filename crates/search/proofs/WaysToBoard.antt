@@ -33,7 +33,7 @@ use Rattle.search.proofs.Basis.{Basis}
 use Rattle.search.proofs.LabelsInRecords.{trail_goes_on}
 use Rattle.search.proofs.RowsAreTrains.{many, fits, count_is, stop_is, code_is, features_is, spot_of}
 
-module _ {A : Type 0} (m : Meaning A) (rows : List TrainRow) (stops : List StopRow) (basis : Basis m rows stops) (runs : Pairs) (q : Query) where
+module _ {A : Type 0} (m : Meaning A) (rows : List TrainRow) (stops : List StopRow) (basis : Basis m rows stops) (runs : Pairs) (q : Query) (known : Option A) where
   abbrev ok : Timetable rows stops
   ok = basis.timetable
 
@@ -59,7 +59,7 @@ module _ {A : Type 0} (m : Meaning A) (rows : List TrainRow) (stops : List StopR
     boardable_is : boardable trains runs q n s i ≡ (may_use runs q (train_row n rows) s && may_board stop)
     boardable_is = ap₂ (λ (b : Bool) (x : StopRow). b && may_board x) goes_is same_stop
 
-    pub boards_nothing : (trail : ℕ → List Ride → Type 0) (k : ℕ) → (may_use runs q (train_row n rows) s && may_board stop) ≡ false → SettlesBoarding m trains runs q trail k n s i None
+    pub boards_nothing : (trail : ℕ → List Ride → Type 0) (k : ℕ) → (may_use runs q (train_row n rows) s && may_board stop) ≡ false → SettlesBoarding m trains runs q trail known k n s i None
     boards_nothing trail k e = settles_none m _ _ _ (λ t x. absurd (subst T (boardable_is ∙ e) (needs k t x)))
       where
         needs : (k : ℕ) (t : A) → Boards m trains runs q k n s i t → T (boardable trains runs q n s i)
@@ -70,15 +70,15 @@ module _ {A : Type 0} (m : Meaning A) (rows : List TrainRow) (stops : List StopR
     abbrev starting : StopRow → Label A
     starting x = record { total = with m m.empty (stretch Start (departure x + midnight s - ready q) 0); board = i; from = 0 }
 
-    pub boards_first : (table : List (WorkRecord A)) (r : Option (Label A)) → (may_use runs q (train_row n rows) s && may_board stop) ≡ true → r ≡ only_when (eqb stop.station q.origin && leb (ready q) (departure stop + midnight s)) (Some (starting stop)) → SettlesBoarding m trains runs q (Trail rows (length stops) table 0) 0 n s i r
+    pub boards_first : (table : List (WorkRecord A)) (r : Option (Label A)) → (may_use runs q (train_row n rows) s && may_board stop) ≡ true → r ≡ only_when (eqb stop.station q.origin && leb (ready q) (departure stop + midnight s)) (Some (starting stop)) → SettlesBoarding m trains runs q (Trail rows (length stops) table 0) known 0 n s i r
     boards_first table r e er =
         let there = λ (b : Bool) (x : StopRow). only_when (b && (eqb x.station q.origin && leb (ready q) (departure x + midnight s))) (Some (starting x)) in
-        subst (SettlesBoarding m trains runs q (Trail rows (length stops) table 0) 0 n s i)
+        subst (SettlesBoarding m trains runs q (Trail rows (length stops) table 0) known 0 n s i)
         (ap₂ there (boardable_is ∙ e) same_stop ∙ sym er)
-        (settles_start m basis.connex basis.transitive basis.keeps basis.starts basis.counts trains punctual runs q (Trail rows (length stops) table 0) n s i refl)
+        (settles_start m basis.connex basis.transitive basis.grows basis.keeps basis.starts basis.counts trains punctual runs q known (Trail rows (length stops) table 0) n s i refl)
 
   -- ---- after a change
-  module _ (k : ℕ) (table : List (WorkRecord A)) (filled : Filled m runs q rows stops table (suc k)) where
+  module _ (k : ℕ) (table : List (WorkRecord A)) (filled : Filled m runs q rows stops known table (suc k)) where
     abbrev label : ℕ → Shift → ℕ → Option (Label A)
     label n s i = label_in (length stops) table k s (row_of rows n i)
 
@@ -91,8 +91,8 @@ module _ {A : Type 0} (m : Meaning A) (rows : List TrainRow) (stops : List StopR
     on_train : (n i : ℕ) → n < length trains → i < length (stops_at trains n) → i < (train_row n rows).count
     on_train n i ln li = omega (arith, count_is rows stops ok.ordered n (in_rows n ln))
 
-    known : (n : ℕ) (s : Shift) (i : ℕ) → n < length trains → i < length (stops_at trains n) → SettlesArrival m trains runs q (Trail rows (length stops) table k) k n s i (label n s i)
-    known n s i ln li = filled k n s i (omega arith) (in_rows n ln) (on_train n i ln li)
+    settled : (n : ℕ) (s : Shift) (i : ℕ) → n < length trains → i < length (stops_at trains n) → SettlesArrival m trains runs q (Trail rows (length stops) table k) known k n s i (label n s i)
+    settled n s i ln li = filled k n s i (omega arith) (in_rows n ln) (on_train n i ln li)
 
     leads : (n : ℕ) (s : Shift) (i : ℕ) (l : Label A) (rides : List Ride) → n < length trains → i < length (stops_at trains n) → label n s i ≡ Some l → Trail rows (length stops) table k l.from rides → Trail rows (length stops) table (suc k) (spot n s i) (rides ++ (ride n s l.board i ∷ []))
     leads n s i l rides ln li e t = trail_goes_on rows (length stops) table k n s i l rides (in_rows n ln) (on_train n i ln li) e t
@@ -102,7 +102,7 @@ module _ {A : Type 0} (m : Meaning A) (rows : List TrainRow) (stops : List StopR
       here = stop_at stops (row_of rows n i)
 
       abbrev Made : Label A → Type 0
-      Made = Changed m basis.connex basis.transitive basis.keeps basis.starts basis.counts trains punctual runs q k (Trail rows (length stops) table k) label known spot n s i
+      Made = Changed m basis.connex basis.transitive basis.grows basis.keeps basis.starts basis.counts trains punctual runs q known k (Trail rows (length stops) table k) label settled spot n s i
 
       abbrev Possible : Label A → Type 0
       Possible = Changes m stops (label_in (length stops) table k) here.station (departure here + midnight s) i
@@ -162,15 +162,15 @@ module _ {A : Type 0} (m : Meaning A) (rows : List TrainRow) (stops : List StopR
             ),
           )
 
-      pub boards_after : (r : Option (Label A)) → (may_use runs q (train_row n rows) s && may_board here) ≡ true → Best (no_dearer m) Possible r → SettlesBoarding m trains runs q (Trail rows (length stops) table (suc k)) (suc k) n s i r
+      pub boards_after : (r : Option (Label A)) → (may_use runs q (train_row n rows) s && may_board here) ≡ true → Best (no_dearer m) Possible r → SettlesBoarding m trains runs q (Trail rows (length stops) table (suc k)) known (suc k) n s i r
       boards_after r e best =
-          subst (λ (b : Bool). SettlesBoarding m trains runs q (Trail rows (length stops) table (suc k)) (suc k) n s i (only_when b r)) (boardable_is n s i ln li ∙ e)
-          (settles_change m basis.connex basis.transitive basis.keeps basis.starts basis.counts trains punctual runs q k (Trail rows (length stops) table k) label known spot (Trail rows (length stops) table (suc k)) leads n s i r
+          subst (λ (b : Bool). SettlesBoarding m trains runs q (Trail rows (length stops) table (suc k)) known (suc k) n s i (only_when b r)) (boardable_is n s i ln li ∙ e)
+          (settles_change m basis.connex basis.transitive basis.grows basis.keeps basis.starts basis.counts trains punctual runs q known k (Trail rows (length stops) table k) label settled spot (Trail rows (length stops) table (suc k)) leads n s i r
           (best_same (no_dearer m) Possible Made r to_made from_made best))
 
   -- the layer by the one before it, and the minute by what it equals
-  pub boards_later : (layer before : ℕ) (table : List (WorkRecord A)) (n : ℕ) (s : Shift) (i until : ℕ) (r : Option (Label A)) → before + 1 ≡ layer → Filled m runs q rows stops table layer → n < length rows → i < (train_row n rows).count → (may_use runs q (train_row n rows) s && may_board (stop_at stops (row_of rows n i))) ≡ true → until ≡ departure (stop_at stops (row_of rows n i)) + midnight s → Best (no_dearer m) (Changes m stops (label_in (length stops) table before) (stop_at stops (row_of rows n i)).station until i) r → SettlesBoarding m trains runs q (Trail rows (length stops) table layer) layer n s i r
+  pub boards_later : (layer before : ℕ) (table : List (WorkRecord A)) (n : ℕ) (s : Shift) (i until : ℕ) (r : Option (Label A)) → before + 1 ≡ layer → Filled m runs q rows stops known table layer → n < length rows → i < (train_row n rows).count → (may_use runs q (train_row n rows) s && may_board (stop_at stops (row_of rows n i))) ≡ true → until ≡ departure (stop_at stops (row_of rows n i)) + midnight s → Best (no_dearer m) (Changes m stops (label_in (length stops) table before) (stop_at stops (row_of rows n i)).station until i) r → SettlesBoarding m trains runs q (Trail rows (length stops) table layer) known layer n s i r
   boards_later layer before table n s i until r next filled ln li e w best =
       let k : suc before ≡ layer = omega arith in
-      subst (λ (j : ℕ). Filled m runs q rows stops table j → SettlesBoarding m trains runs q (Trail rows (length stops) table j) j n s i r) k
+      subst (λ (j : ℕ). Filled m runs q rows stops known table j → SettlesBoarding m trains runs q (Trail rows (length stops) table j) known j n s i r) k
       (λ f. boards_after before table f n s i ln li r e (subst (λ (u : ℕ). Best (no_dearer m) (Changes m stops (label_in (length stops) table before) (stop_at stops (row_of rows n i)).station u i) r) w best)) filled

@@ -14,10 +14,12 @@ use Rattle.connection.specs.declared.query.Query.{Query}
 use Rattle.connection.specs.declared.ride.Ride.{Ride}
 use Rattle.connection.specs.declared.ride.Shift.{Shift}
 use Rattle.search.specs.Changing.{Timely}
+use Rattle.search.specs.Ends.{known_total, Known, NoDearer}
 use Rattle.search.specs.Records.{blank}
 use Rattle.search.specs.Working.{may_use, place, layer_at, label_in}
 use Rattle.search.specs.Shifts.{on}
 use Rattle.search.specs.declared.by_shift.ByShift.{ByShift}
+use Rattle.search.specs.declared.ends.End.{End}
 use Rattle.search.specs.declared.record.WorkRecord.{WorkRecord}
 
 -- ---- the rows in use
@@ -54,15 +56,15 @@ module _ {A : Type 0} (rows : List TrainRow) (size : ℕ) (table : List (WorkRec
       × (rides ≡ before ++ (ride n s (get_or table (layer_at size k + f) blank).board i ∷ []))
 
 module _ {A : Type 0} (m : Meaning A) (runs : Pairs) (q : Query) (rows : List TrainRow) (stops : List StopRow) where
-  -- the label settles the ways to the stop i of the run, after k changes
-  abbrev pub Holds : List (WorkRecord A) → ℕ → ℕ → Shift → ℕ → Option (Label A) → Type 0
-  Holds table k n s i o = SettlesArrival m (trains_in rows stops) runs q (Trail rows (length stops) table k) k n s i o
+  -- the label settles the ways to the stop i of the run, after k changes, where a connection is known at that total
+  abbrev pub Holds : Option A → List (WorkRecord A) → ℕ → ℕ → Shift → ℕ → Option (Label A) → Type 0
+  Holds known table k n s i o = SettlesArrival m (trains_in rows stops) runs q (Trail rows (length stops) table k) known k n s i o
 
   -- so do all labels of the first layers
-  abbrev pub Filled : List (WorkRecord A) → ℕ → Type 0
-  Filled table layers =
+  abbrev pub Filled : Option A → List (WorkRecord A) → ℕ → Type 0
+  Filled known table layers =
       (k n : ℕ) (s : Shift) (i : ℕ) → k < layers → n < length rows → i < (train_row n rows).count
-      → Holds table k n s i (label_in (length stops) table k s (row_of rows n i))
+      → Holds known table k n s i (label_in (length stops) table k s (row_of rows n i))
 
 -- ---- how a layer is filled
 module _ {A : Type 0} where
@@ -78,16 +80,19 @@ module _ {A : Type 0} where
 
 module _ {A : Type 0} (m : Meaning A) (q : Query) (rows : List TrainRow) (stops : List StopRow) where
   -- between them the labels of the new table settle, by what the layers before the layer k held in the old one
-  abbrev pub SettledBetween : Pairs → List (WorkRecord A) → List (WorkRecord A) → ℕ → ℕ → ℕ → Type 0
-  SettledBetween runs old new k x y =
+  abbrev pub SettledBetween : Pairs → Option A → List (WorkRecord A) → List (WorkRecord A) → ℕ → ℕ → ℕ → Type 0
+  SettledBetween runs known old new k x y =
       (n : ℕ) (s : Shift) (i : ℕ) → n < length rows → i < (train_row n rows).count → x ≤ place (length stops) s (row_of rows n i) → place (length stops) s (row_of rows n i) < y
-      → Holds m runs q rows stops old k n s i (label_in (length stops) new k s (row_of rows n i))
+      → Holds m runs q rows stops known old k n s i (label_in (length stops) new k s (row_of rows n i))
 
-  -- the layer k is filled from the place x up to the place y, where the calendar says what May tells; found is false only where no label is there
-  pub record Fills (k : ℕ) (May : Pairs → Type 0) (old new : List (WorkRecord A)) (x y : ℕ) (found : Bool) : Type 0 where
+  -- the layer k is filled from the place x up to the place y, where the calendar says what May tells; found is false only where no label
+  -- is there; before and after are the cheapest ends that are known
+  pub record Fills (k : ℕ) (May : Pairs → Type 0) (old new : List (WorkRecord A)) (x y : ℕ) (found : Bool) (before after : Option (End A)) : Type 0 where
     pub unchanged : UnchangedBelow (layer_at (length stops) k + x) old new
     pub nothing : found ≡ false → NoLabelBetween rows (length stops) new k x y
-    pub settled : (runs : Pairs) → May runs → Filled m runs q rows stops old k → SettledBetween runs old new k x y
+    pub known : Known stops old q.destination (layer_at (length stops) k + x) m before → Known stops new q.destination (layer_at (length stops) k + y) m after
+    pub no_dearer : NoDearer m before after
+    pub settled : (runs : Pairs) → May runs → Filled m runs q rows stops (known_total before) old k → SettledBetween runs (known_total after) old new k x y
 
 -- the places where a run begins and ends
 abbrev pub run_begins : List TrainRow → ℕ → ℕ → Shift → ℕ
@@ -109,3 +114,10 @@ Asked q rows usable runs = (s : Shift) → ShiftAsked q rows s (on usable s) run
 -- the first layers are all that there is: one for each ride that the query allows, or the last of them has no label
 abbrev pub AllLayers : {A : Type 0} → List TrainRow → ℕ → List (WorkRecord A) → Query → ℕ → Type 0
 AllLayers rows size table q layers = (layers ≡ q.changes + 1) ⊎ ((k : ℕ) × (layers ≡ suc k) × NoLabelBetween rows size table k 0 (3 * size))
+
+-- they are filled, and the end is the cheapest of them all
+pub record AllFilled {A : Type 0} (m : Meaning A) (q : Query) (rows : List TrainRow) (stops : List StopRow) (May : Pairs → Type 0) (table : List (WorkRecord A)) (end : Option (End A)) (layers : ℕ) : Type 0 where
+  pub few : layers ≤ q.changes + 1
+  pub all : AllLayers rows (length stops) table q layers
+  pub known : Known stops table q.destination (layer_at (length stops) layers) m end
+  pub filled : (runs : Pairs) → May runs → Filled m runs q rows stops (known_total end) table layers

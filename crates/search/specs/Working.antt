@@ -68,7 +68,13 @@ module _ {A : Type 0} where
   abbrev pub label_in : ℕ → List (WorkRecord A) → ℕ → Shift → ℕ → Option (Label A)
   label_in size table k s row = label_at table (part_at size k s + row)
 
--- ---- a label with fewer changes at the same place is no dearer
+-- ---- a label that is not worth following
+-- a connection is known that costs no more
+abbrev pub hopeless : {A : Type 0} → Meaning A → Option A → A → Bool
+hopeless m None total = false
+hopeless m (Some known) total = m.at_most known total
+
+-- a label with fewer changes at the same place costs no more
 abbrev pub costs_no_more : {A : Type 0} → Meaning A → Option (Label A) → A → Bool
 costs_no_more m None total = false
 costs_no_more m (Some l) total = m.at_most l.total total
@@ -79,6 +85,6 @@ module _ {A : Type 0} (m : Meaning A) (size : ℕ) (table : List (WorkRecord A))
   beaten zero total = false
   beaten (suc k) total = beaten k total || costs_no_more m (label_at table (layer_at size k + at)) total
 
-  abbrev pub unless_beaten : ℕ → Option (Label A) → Option (Label A)
-  unless_beaten layer None = None
-  unless_beaten layer (Some l) = cond (beaten layer l.total) None (Some l)
+  abbrev pub if_worth_following : Option A → ℕ → Option (Label A) → Option (Label A)
+  if_worth_following known layer None = None
+  if_worth_following known layer (Some l) = cond (hopeless m known l.total || beaten layer l.total) None (Some l)

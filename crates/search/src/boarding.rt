@@ -1,5 +1,5 @@
 // Boarding a run: at the origin, or after a change.
-ghost use Rattle.std.specs.Prelude.{◌≡◌, ◌+◌, ◌-◌, ◌*◌, ◌<◌, ◌≤◌, ◌&&◌, length, Some, ◌==◌, nat_le};
+ghost use Rattle.std.specs.Prelude.{◌≡◌, ◌+◌, ◌-◌, ◌*◌, ◌<◌, ◌≤◌, ◌&&◌, length, Option, Some, ◌==◌, nat_le};
 ghost use Rattle.tariff.specs.declared.step.Kind.TheVariants.{Start as AtStart};
 ghost use Rattle.book.specs.Answers.{train_row};
 ghost use Rattle.book.specs.Limits.{last_station};
@@ -46,7 +46,7 @@ impl<P: Tariff> Inquiry<'_, P> {
         requires linked { LinkedBefore self.now.stops.now work.now layer.number arrivals.now }
         requires in_force { run.train < length self.now.trains.now }
         requires on_the_train { i < (train_row run.train self.now.trains.now).count }
-        ensures settles { (runs : Pairs) → run.usable ≡ may_use runs self.now.query.now (train_row run.train self.now.trains.now) run.shift → Filled (P.Tariff.meaning self.now.tariff.now) runs self.now.query.now self.now.trains.now self.now.stops.now work.now layer.number → SettlesBoarding (P.Tariff.meaning self.now.tariff.now) (trains_in self.now.trains.now self.now.stops.now) runs self.now.query.now (Trail self.now.trains.now (length self.now.stops.now) work.now layer.number) layer.number run.train run.shift i result }
+        ensures settles { (runs : Pairs) (known : Option _) → run.usable ≡ may_use runs self.now.query.now (train_row run.train self.now.trains.now) run.shift → Filled (P.Tariff.meaning self.now.tariff.now) runs self.now.query.now self.now.trains.now self.now.stops.now known work.now layer.number → SettlesBoarding (P.Tariff.meaning self.now.tariff.now) (trains_in self.now.trains.now self.now.stops.now) runs self.now.query.now (Trail self.now.trains.now (length self.now.stops.now) work.now layer.number) known layer.number run.train run.shift i result }
     {
         let row = self.trains[run.train].first as usize + i;
         let stop = &self.stops[row];

@@ -14,7 +14,7 @@ use connection::ride::Ride;
 use tariff::Tariff;
 
 impl<P: Tariff> Inquiry<'_, P> {
-    // Fills the layers, takes the cheapest label at the destination, and writes the rides that led to it.
+    // Fills the layers, and writes the rides that led to the cheapest label at the destination.
     pub fn cheapest<C: Calendar>(
         &self,
         calendar: &C,
@@ -27,8 +27,9 @@ impl<P: Tariff> Inquiry<'_, P> {
         ensures rides { rides.new ≡ rides_left result rides.old rides.new }
     {
         let usable = self.usable(calendar);
-        let layers = self.fill_layers(work, &usable);
-        let end = self.best_end(work, layers).ok_or(Refusal::NoConnection)?;
+        let end = self
+            .fill_layers(work, &usable)
+            .ok_or(Refusal::NoConnection)?;
         let layer = Layer { number: end.layer };
         self.write_rides(work, layer, end.place, rides);
         Ok((end.total, end.layer + 1))

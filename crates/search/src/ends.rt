@@ -1,16 +1,14 @@
-// The cheapest label at the destination.
-ghost use Rattle.std.specs.Prelude.{◌≡◌, ◌+◌, ◌*◌, ◌<◌, ◌≤◌, length};
-ghost use Rattle.connection.specs.Ways.{Among, Best};
-ghost use Rattle.search.specs.Ends.{ends_no_dearer, end_at, EndsIn, Ends};
-ghost use Rattle.search.specs.Working.{HasLayers};
+// The labels at the destination, of which the cheapest is the answer.
+ghost use Rattle.std.specs.Prelude.{◌≡◌};
+ghost use Rattle.connection.specs.Choosing.{cheaper as cheaper_of};
+ghost use Rattle.search.specs.Ends.{ends_no_dearer, is_end, end_here};
 
-use crate::choosing::{Priced, cheaper, cheapest_of_shifts};
+use crate::choosing::{Priced, cheaper};
 use crate::inquiry::Inquiry;
 use crate::layer::Layer;
-use crate::record::WorkRecord;
-use crate::table::label_at;
+use book::rows::StopRow;
 use connection::allowed::may_alight;
-use connection::ride::Shift;
+use connection::label::Label;
 use tariff::Tariff;
 
 // A label at the destination: its total, its layer, and its place in the layer.
@@ -30,75 +28,25 @@ impl<T: Copy> Priced<T> for End<T> {
 }
 
 impl<P: Tariff> Inquiry<'_, P> {
-    // The cheapest of the first layers, if one can alight at the destination at all.
-    pub fn best_end(&self, work: &[WorkRecord<P::Total>], layers: usize) -> Option<End<P::Total>>
-        requires shallow { layers ≤ 16 }
-        requires within { HasLayers (length self.now.stops.now) work.now layers }
-        ensures best { Best (ends_no_dearer (P.Tariff.meaning self.now.tariff.now)) (Ends self.now.stops.now work.now layers self.now.query.now.destination) result }
-    {
-        // as plain as a `fold`, in whose closure a row or a layer is not known to be one of these
-        let mut best = None;
-        // Few rows are at the destination, so the labels of the others are not looked at.
-        for (row, stop) in self.stops.iter().enumerate() {
-            if stop.station == self.query.destination && may_alight(stop) {
-                best = cheaper(self.tariff, best, self.best_end_of_row(work, layers, row));
-            }
-        }
-        best
-    }
-
-    // The cheapest of the row's labels in the first layers, whether or not one may alight there.
-    fn best_end_of_row(
+    // The cheapest end that is known once the label at the stop is known too: that label, if it is an end and is cheaper.
+    pub fn with_label(
         &self,
-        work: &[WorkRecord<P::Total>],
-        layers: usize,
-        row: usize,
-    ) -> Option<End<P::Total>>
-        requires shallow { layers ≤ 16 }
-        requires within { HasLayers (length self.now.stops.now) work.now layers }
-        requires inside { row < length self.now.stops.now }
-        ensures best { Best (ends_no_dearer (P.Tariff.meaning self.now.tariff.now)) (Among layers (EndsIn (length self.now.stops.now) work.now row)) result }
-    {
-        // as plain as a `fold`, likewise
-        let mut best = None;
-        for number in 0..layers {
-            let end = self.best_end_in(work, Layer { number }, row);
-            best = cheaper(self.tariff, best, end);
-        }
-        best
-    }
-
-    // The cheapest of the row's labels in that layer, one for each shift.
-    fn best_end_in(
-        &self,
-        work: &[WorkRecord<P::Total>],
+        known: Option<End<P::Total>>,
+        stop: &StopRow,
         layer: Layer,
-        row: usize,
+        place: usize,
+        label: Option<Label<P::Total>>,
     ) -> Option<End<P::Total>>
-        requires within { HasLayers (length self.now.stops.now) work.now (layer.number + 1) }
-        requires inside { row < length self.now.stops.now }
-        ensures best { Best (ends_no_dearer (P.Tariff.meaning self.now.tariff.now)) (EndsIn (length self.now.stops.now) work.now row layer.number) result }
+        ensures { result ≡ cheaper_of (ends_no_dearer (P.Tariff.meaning self.now.tariff.now)) known (end_here (is_end stop.now self.now.query.now.destination) layer.number place label) }
     {
-        cheapest_of_shifts(self.tariff, |shift| self.end_at(work, layer, shift, row))
-    }
-
-    // The row's label in that layer for runs of that shift, as an end.
-    fn end_at(
-        &self,
-        work: &[WorkRecord<P::Total>],
-        layer: Layer,
-        shift: Shift,
-        row: usize,
-    ) -> Option<End<P::Total>>
-        requires within { HasLayers (length self.now.stops.now) work.now (layer.number + 1) }
-        requires inside { row < length self.now.stops.now }
-        ensures { result ≡ end_at (length self.now.stops.now) work.now layer.number shift row }
-    {
-        let place = self.place(shift, row);
-        label_at(work, self.part_at(layer, shift) + row).map(|label| End {
-            total: label.total,
+        if stop.station != self.query.destination || !may_alight(stop) {
+            return known;
+        }
+        let end = label.map(|l| End {
+            total: l.total,
             layer: layer.number,
             place,
-        })
+        });
+        cheaper(self.tariff, known, end)
     }
 }

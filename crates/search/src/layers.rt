@@ -1,12 +1,12 @@
 // The layers of labels, one for each number of changes.
-ghost use Rattle.std.specs.Prelude.{◌+◌, ◌-◌, ◌*◌, ◌<◌, ◌≤◌, length};
-ghost use Rattle.calendar.specs.Pairs.{Pairs};
+ghost use Rattle.std.specs.Prelude.{ℕ, ◌+◌, ◌-◌, ◌*◌, ◌<◌, ◌≤◌, length};
 ghost use Rattle.search.specs.Chains.{LinkedBefore};
-ghost use Rattle.search.specs.Layers.{Filled, Fills, ShiftAsked, Asked, AllLayers};
+ghost use Rattle.search.specs.Layers.{Fills, ShiftAsked, Asked, AllFilled};
 ghost use Rattle.search.specs.Working.{place, HasLayers};
 
 use crate::asking::Usable;
 use crate::chains::{Arrivals, no_arrivals};
+use crate::ends::End;
 use crate::inquiry::Inquiry;
 use crate::layer::Layer;
 use crate::record::WorkRecord;
@@ -18,45 +18,48 @@ use tariff::Tariff;
 // call: it is known of a table that is being written, and a struct that held the table would have to promise in every
 // clause that the rest stays. Those that only read are called in the middle of that, with the table lent for the call.
 impl<P: Tariff> Inquiry<'_, P> {
-    // Writes layer after layer, until all changes are used up or a layer has no label, and tells how many layers there are.
-    pub fn fill_layers(&self, work: &mut [WorkRecord<P::Total>], usable: &Usable) -> usize
+    // Writes layer after layer, until all changes are used up or a layer has no label, and answers the cheapest end.
+    pub fn fill_layers(
+        &self,
+        work: &mut [WorkRecord<P::Total>],
+        usable: &Usable,
+    ) -> Option<End<P::Total>>
         requires within { HasLayers (length self.now.stops.now) work.old (self.now.query.now.changes + 1) }
-        ensures few { result ≤ self.now.query.now.changes + 1 }
-        ensures all { AllLayers self.now.trains.now (length self.now.stops.now) work.new self.now.query.now result }
-        ensures filled { (runs : Pairs) → Asked self.now.query.now self.now.trains.now usable.now runs → Filled (P.Tariff.meaning self.now.tariff.now) runs self.now.query.now self.now.trains.now self.now.stops.now work.new result }
+        ensures filled { (layers : ℕ) × AllFilled (P.Tariff.meaning self.now.tariff.now) self.now.query.now self.now.trains.now self.now.stops.now (Asked self.now.query.now self.now.trains.now usable.now) work.new result layers }
     {
-        let layers = self.query.changes as usize + 1;
+        let mut known = None;
         let mut arrivals = no_arrivals();
-        for number in 0..layers {
+        for number in 0..self.query.changes as usize + 1 {
             let layer = Layer { number };
-            if !self.fill_layer(work, layer, &arrivals, usable) {
-                return number + 1;
+            if !self.fill_layer(work, layer, &arrivals, usable, &mut known) {
+                return known;
             }
             arrivals = self.arrivals(work, layer);
         }
-        layers
+        known
     }
 
-    // Writes the labels of a layer. Where it says no, there is none.
+    // Writes the labels of a layer, and keeps the cheapest end that is known. Where it says no, there is no label.
     fn fill_layer(
         &self,
         work: &mut [WorkRecord<P::Total>],
         layer: Layer,
         arrivals: &Arrivals,
         usable: &Usable,
+        known: &mut Option<End<P::Total>>,
     ) -> bool
         requires within { HasLayers (length self.now.stops.now) work.old (layer.number + 1) }
         requires linked { LinkedBefore self.now.stops.now work.old layer.number arrivals.now }
-        ensures { Fills (P.Tariff.meaning self.now.tariff.now) self.now.query.now self.now.trains.now self.now.stops.now layer.number (Asked self.now.query.now self.now.trains.now usable.now) work.old work.new 0 (3 * length self.now.stops.now) result }
+        ensures { Fills (P.Tariff.meaning self.now.tariff.now) self.now.query.now self.now.trains.now self.now.stops.now layer.number (Asked self.now.query.now self.now.trains.now usable.now) work.old work.new 0 (3 * length self.now.stops.now) result known.old known.new }
     {
         let mut found = false;
         for shift in Shift::ALL {
-            found |= self.fill_shift(work, layer, arrivals, usable.on(shift), shift);
+            found |= self.fill_shift(work, layer, arrivals, usable.on(shift), shift, known);
         }
         found
     }
 
-    // Writes the labels of all runs of one shift in the layer. Where it says no, there is none.
+    // Does so for all runs of one shift.
     fn fill_shift(
         &self,
         work: &mut [WorkRecord<P::Total>],
@@ -64,11 +67,12 @@ impl<P: Tariff> Inquiry<'_, P> {
         arrivals: &Arrivals,
         usable: &[bool],
         shift: Shift,
+        known: &mut Option<End<P::Total>>,
     ) -> bool
         requires within { HasLayers (length self.now.stops.now) work.old (layer.number + 1) }
         requires linked { LinkedBefore self.now.stops.now work.old layer.number arrivals.now }
         requires each { length self.now.trains.now ≤ length usable.now }
-        ensures { Fills (P.Tariff.meaning self.now.tariff.now) self.now.query.now self.now.trains.now self.now.stops.now layer.number (ShiftAsked self.now.query.now self.now.trains.now shift usable.now) work.old work.new (place (length self.now.stops.now) shift 0) (place (length self.now.stops.now) shift (length self.now.stops.now)) result }
+        ensures { Fills (P.Tariff.meaning self.now.tariff.now) self.now.query.now self.now.trains.now self.now.stops.now layer.number (ShiftAsked self.now.query.now self.now.trains.now shift usable.now) work.old work.new (place (length self.now.stops.now) shift 0) (place (length self.now.stops.now) shift (length self.now.stops.now)) result known.old known.new }
     {
         let mut found = false;
         for (train, usable) in usable[..self.trains.len()].iter().enumerate() {
@@ -77,7 +81,7 @@ impl<P: Tariff> Inquiry<'_, P> {
                 shift,
                 usable: *usable,
             };
-            found |= self.fill_run(work, layer, arrivals, run);
+            found |= self.fill_run(work, layer, arrivals, run, known);
         }
         found
     }

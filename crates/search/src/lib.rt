@@ -9,8 +9,8 @@
 //
 // An `inquiry` is a query that can be asked, over rows that hold a book, under a tariff. It is answered by layers of labels,
 // one layer for each number of changes; a label is the cheapest total with which one can be on board a run at a stop.
-// `layers` fills them run by run (`riding`, `boarding`), `ends` takes the cheapest label at the destination, and `trail`
-// reads the rides back.
+// `layers` fills them run by run (`riding`, `boarding`) and keeps the cheapest label at the destination (`ends`); a label
+// that costs as much as that one is not followed. `trail` reads the rides back.
 #![tactic(auto)]
 
 ghost use Rattle.std.specs.Prelude.{◌≡◌, List, length};

@@ -5,11 +5,13 @@ ghost use Rattle.connection.specs.Choosing.{mapped, cheaper as cheaper_of};
 ghost use Rattle.connection.specs.Prices.{hop as hop_of, stand as stand_of};
 ghost use Rattle.connection.specs.Settled.{extended, no_dearer};
 ghost use Rattle.search.specs.Chains.{LinkedBefore};
+ghost use Rattle.search.specs.Ends.{known_total};
 ghost use Rattle.search.specs.Layers.{Fills, RunAsked, run_begins, run_ends};
-ghost use Rattle.search.specs.Working.{layer_at, label_at as label_of_record, costs_no_more, beaten, unless_beaten, HasLayers};
+ghost use Rattle.search.specs.Working.{layer_at, label_at as label_of_record, costs_no_more, hopeless, beaten, if_worth_following, HasLayers};
 
 use crate::chains::Arrivals;
 use crate::choosing::{cheaper, with_step};
+use crate::ends::End;
 use crate::inquiry::Inquiry;
 use crate::layer::Layer;
 use crate::minutes::{hop, stand};
@@ -21,18 +23,19 @@ use connection::label::Label;
 use tariff::Tariff;
 
 impl<P: Tariff> Inquiry<'_, P> {
-    // Writes the labels of the run in the layer. Where it says no, there is none.
+    // Writes the labels of the run in the layer, and keeps the cheapest end that is known. Where it says no, there is no label.
     pub fn fill_run(
         &self,
         work: &mut [WorkRecord<P::Total>],
         layer: Layer,
         arrivals: &Arrivals,
         run: Run,
+        known: &mut Option<End<P::Total>>,
     ) -> bool
         requires within { HasLayers (length self.now.stops.now) work.old (layer.number + 1) }
         requires linked { LinkedBefore self.now.stops.now work.old layer.number arrivals.now }
         requires in_force { run.train < length self.now.trains.now }
-        ensures { Fills (P.Tariff.meaning self.now.tariff.now) self.now.query.now self.now.trains.now self.now.stops.now layer.number (RunAsked self.now.query.now (train_row run.train self.now.trains.now) run.shift run.usable) work.old work.new (run_begins self.now.trains.now (length self.now.stops.now) run.train run.shift) (run_ends self.now.trains.now (length self.now.stops.now) run.train run.shift) result }
+        ensures { Fills (P.Tariff.meaning self.now.tariff.now) self.now.query.now self.now.trains.now self.now.stops.now layer.number (RunAsked self.now.query.now (train_row run.train self.now.trains.now) run.shift run.usable) work.old work.new (run_begins self.now.trains.now (length self.now.stops.now) run.train run.shift) (run_ends self.now.trains.now (length self.now.stops.now) run.train run.shift) result known.old known.new }
     {
         let train = self.trains[run.train];
         let first = train.first as usize;
@@ -42,9 +45,10 @@ impl<P: Tariff> Inquiry<'_, P> {
         let mut found = false;
         let mut aboard = None;
         for (i, stop) in stops.iter().enumerate() {
-            aboard = self.unless_beaten(work, layer, place + i, aboard);
+            aboard = self.if_worth_following(work, layer, place + i, *known, aboard);
             put_label(work, at + i, aboard);
             found |= aboard.is_some();
+            *known = self.with_label(*known, stop, layer, place + i, aboard);
             if let Some(next) = stops.get(i + 1) {
                 let boarded = self.boarding(work, layer, arrivals, run, i);
                 aboard = self.ride_on(boarded, aboard, stop, next);
@@ -71,24 +75,33 @@ impl<P: Tariff> Inquiry<'_, P> {
         )
     }
 
-    // The label, unless one with fewer changes at the same place is no dearer: then it is not worth following.
-    fn unless_beaten(
+    // The label, unless it costs at least what the known end does, or a label with fewer changes at the same place is no
+    // dearer: then it is not worth following.
+    fn if_worth_following(
         &self,
         work: &[WorkRecord<P::Total>],
         layer: Layer,
         place: usize,
+        known: Option<End<P::Total>>,
         label: Option<Label<P::Total>>,
     ) -> Option<Label<P::Total>>
         requires within { HasLayers (length self.now.stops.now) work.now layer.number }
         requires placed { place < 3 * length self.now.stops.now }
-        ensures { result ≡ unless_beaten (P.Tariff.meaning self.now.tariff.now) (length self.now.stops.now) work.now place layer.number label }
+        ensures { result ≡ if_worth_following (P.Tariff.meaning self.now.tariff.now) (length self.now.stops.now) work.now place (known_total known) layer.number label }
     {
         // no `filter`: nothing is known of what its closure answers by the labels of a table
         let new = label?;
-        if self.is_beaten(work, layer, place, new.total) {
+        if self.is_hopeless(known, new.total) || self.is_beaten(work, layer, place, new.total) {
             return None;
         }
         label
+    }
+
+    // Whether the known end costs no more: travelling on never makes a journey cheaper.
+    fn is_hopeless(&self, known: Option<End<P::Total>>, total: P::Total) -> bool
+        ensures { result ≡ hopeless (P.Tariff.meaning self.now.tariff.now) (known_total known) total }
+    {
+        known.is_some_and(|end| self.tariff.at_most(end.total, total))
     }
 
     // Whether a label with fewer changes at the place is no dearer.

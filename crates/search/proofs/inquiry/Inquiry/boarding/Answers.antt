@@ -19,7 +19,7 @@ basis : (g : Over) (c : Start g) → Basis (g.P.Tariff.meaning c.args.self.now.t
 basis g c =
     let t = c.args.self.now.tariff.now in
     let laws = g.met.P.Tariff in
-    record { connex = laws.connex t; transitive = laws.transitive t; keeps = laws.keeps t; starts = laws.starts t; counts = laws.counts t; timetable = timetable_of c.args.self.now }
+    record { connex = laws.connex t; transitive = laws.transitive t; grows = laws.grows t; keeps = laws.keeps t; starts = laws.starts t; counts = laws.counts t; timetable = timetable_of c.args.self.now }
 
 inside : (g : Over) (c : Start g) → row_of c.args.self.now.trains.now c.args.run.train c.args.i < length c.args.self.now.stops.now
 inside g c =
@@ -46,8 +46,8 @@ returns-then-not-run g c =
     let m = g.P.Tariff.meaning s.tariff.now in
     let stop = stop_at s.stops.now (row_of s.trains.now a.run.train a.i) in
     record {
-      settles = λ runs may filled.
-          boards_nothing m s.trains.now s.stops.now (basis g (goal.at.returns-then-not-run g c).Start) runs s.query.now a.run.train a.run.shift a.i c.requires.in_force c.requires.on_the_train _ a.layer.number
+      settles = λ runs known may filled.
+          boards_nothing m s.trains.now s.stops.now (basis g (goal.at.returns-then-not-run g c).Start) runs s.query.now known a.run.train a.run.shift a.i c.requires.in_force c.requires.on_the_train _ a.layer.number
           (elim c.then-not-run.branch [
             | then-not-run-via-then-not-run w ↦ ap (λ b. b && may_board stop) (sym may ∙ not-true a.run.usable w.if-not-run.true)
             | then-not-run-via-else-not-run+then-not-may_board w ↦ and_false (may_use runs s.query.now (train_row a.run.train s.trains.now) a.run.shift) (may_board stop) (sym w.may_board.ensures ∙ w.if-not-may_board.true)
@@ -66,9 +66,9 @@ returns-in_default g c =
     let m = g.P.Tariff.meaning s.tariff.now in
     let first : a.layer.number ≡ 0 = c.in_default.ensures in
     record {
-      settles = λ runs may filled.
-          subst (λ (k : ℕ). SettlesBoarding m (trains_in s.trains.now s.stops.now) runs s.query.now (Trail s.trains.now (length s.stops.now) a.work.now k) k a.run.train a.run.shift a.i c.start.result) (sym first)
-          (boards_first m s.trains.now s.stops.now (basis g (goal.at.returns-in_default g c).Start) runs s.query.now a.run.train a.run.shift a.i c.requires.in_force c.requires.on_the_train a.work.now c.start.result
+      settles = λ runs known may filled.
+          subst (λ (k : ℕ). SettlesBoarding m (trains_in s.trains.now s.stops.now) runs s.query.now (Trail s.trains.now (length s.stops.now) a.work.now k) known k a.run.train a.run.shift a.i c.start.result) (sym first)
+          (boards_first m s.trains.now s.stops.now (basis g (goal.at.returns-in_default g c).Start) runs s.query.now known a.run.train a.run.shift a.i c.requires.in_force c.requires.on_the_train a.work.now c.start.result
           (ap₂ (λ x y. x && y) (sym may ∙ not-false a.run.usable c.if-not-run.false) (sym c.may_board.ensures ∙ c.if-not-may_board.false)) c.start.ensures);
     }
 
@@ -87,7 +87,7 @@ returns g c =
     let s = a.self.now in
     let m = g.P.Tariff.meaning s.tariff.now in
     record {
-      settles = λ runs may filled.
-          boards_later m s.trains.now s.stops.now (basis g (goal.at.returns g c).Start) runs s.query.now a.layer.number c.in-Some.before.number a.work.now a.run.train a.run.shift a.i c.leaves.result c.best_change.result c.in-Some.ensures filled c.requires.in_force c.requires.on_the_train
+      settles = λ runs known may filled.
+          boards_later m s.trains.now s.stops.now (basis g (goal.at.returns g c).Start) runs s.query.now known a.layer.number c.in-Some.before.number a.work.now a.run.train a.run.shift a.i c.leaves.result c.best_change.result c.in-Some.ensures filled c.requires.in_force c.requires.on_the_train
           (ap₂ (λ x y. x && y) (sym may ∙ not-false a.run.usable c.if-not-run.false) (sym c.may_board.ensures ∙ c.if-not-may_board.false)) c.leaves.ensures c.best_change.ensures.best;
     }

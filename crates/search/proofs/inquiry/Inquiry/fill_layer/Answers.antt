@@ -1,8 +1,11 @@
 use Rattle.std.proofs.Common.{◌≡◌, ◌-◌, ◌*◌, false, [], ◌∷◌, length, get_or, refl, ap, ◌∙◌, arith}
 use Rattle.connection.specs.declared.ride.Shift.TheVariants.{DayBefore, SameDay, DayAfter}
-use Rattle.search.proofs.FillingLayers.{fills_part, moved_to, number_of_shift}
+use Rattle.search.proofs.FillingLayers.{fills_none, fills_part, moved_to, number_of_shift}
 use Rattle.search.proofs.Unchanged.{linked_same}
 use Rattle.search.proofs.inquiry.Inquiry.fill_layer.Goals as goal
+
+pub loop-shift-init : goal.loop-shift-init
+loop-shift-init g c = let ok = c.args.self.now.ordered in moved_to ok refl (omega arith) (fills_none ok)
 
 pub fill_shift-found-requires-clause-linked : goal.fill_shift-found-requires-clause-linked
 fill_shift-found-requires-clause-linked g c later =

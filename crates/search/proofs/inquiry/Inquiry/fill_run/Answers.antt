@@ -1,16 +1,20 @@
-use Rattle.std.proofs.Common.{◌≡◌, ℕ, ◌+◌, ◌-◌, ◌*◌, ◌<◌, ◌≤◌, ◌||◌, length, set, sym, ap, ◌∙◌, subst, add_assoc, arith}
+use Rattle.std.proofs.Common.{◌≡◌, ℕ, ◌+◌, ◌-◌, ◌*◌, ◌<◌, ◌≤◌, ◌||◌, length, set, sym, ap, ◌∙◌, subst, ap₂, add_assoc, arith}
 use Rattle.std.proofs.lemmas.List.{get_or_read}
 use Rattle.std.proofs.lemmas.Bool.{ltb-true, ltb-false}
 use Rattle.book.specs.Answers.{train_row}
 use Rattle.book.specs.Rules.{stop_at}
+use Rattle.book.specs.declared.rows.StopRow.{StopRow}
+use Rattle.connection.specs.Choosing.{cheaper as cheaper_of}
+use Rattle.search.specs.Ends.{ends_no_dearer, known_total, is_end, end_here}
 use Rattle.search.specs.Layers.{row_of}
 use Rattle.search.specs.Records.{record_of}
-use Rattle.search.specs.Working.{number, part_at, unless_beaten}
+use Rattle.search.specs.Working.{number, part_at, if_worth_following}
 use Rattle.search.proofs.Basis.{Basis, timetable_of}
-use Rattle.search.proofs.FillingRuns.{FilledTo, unchanged_still, filled_none, filled_more, comes_next, fills_run}
+use Rattle.search.proofs.FillingRuns.{FilledTo, filled_none, filled_more, comes_next, fills_run}
 use Rattle.search.proofs.Layering.{layer_most, record_below, part_within}
 use Rattle.search.proofs.RowsAreTrains.{fits, own_count, own_stop}
 use Rattle.search.proofs.Unchanged.{linked_same}
+use Rattle.search.proofs.WrittenRecords.{unchanged_still}
 use Rattle.search.proofs.inquiry.Inquiry.fill_run.Goals as goal
 use Rattle.search.proofs.inquiry.Inquiry.fill_run.Goals.{in-Some, in_default}
 
@@ -40,8 +44,8 @@ loop-i-init g c =
     let t = s.tariff.now in
     let laws = g.met.P.Tariff in
     let m = g.P.Tariff.meaning t in
-    let basis : Basis m s.trains.now s.stops.now = record { connex = laws.connex t; transitive = laws.transitive t; keeps = laws.keeps t; starts = laws.starts t; counts = laws.counts t; timetable = timetable_of s } in
-    filled_none m s.query.now s.trains.now s.stops.now a.layer.number a.run.train a.run.shift a.run.usable basis c.requires.in_force a.work.now
+    let basis : Basis m s.trains.now s.stops.now = record { connex = laws.connex t; transitive = laws.transitive t; grows = laws.grows t; keeps = laws.keeps t; starts = laws.starts t; counts = laws.counts t; timetable = timetable_of s } in
+    filled_none m s.query.now s.trains.now s.stops.now a.layer.number a.run.train a.run.shift a.run.usable a.known.now basis c.requires.in_force a.work.now
 
 pub boarding-boarded-requires-clause-linked : goal.boarding-boarded-requires-clause-linked
 boarding-boarded-requires-clause-linked g c later =
@@ -49,8 +53,8 @@ boarding-boarded-requires-clause-linked g c later =
     let s = a.self.now in
     let l = c.loop-i in
     let row = train_row a.run.train s.trains.now in
-    let next = c.put_label.ensures ∙ ap (λ x. set l.work (x + row.first + l.i) (record_of c.unless_beaten-aboard.result)) c.part_at.ensures in
-    let unchanged = unchanged_still (part_at (length s.stops.now) a.layer.number a.run.shift + row.first) l.i a.work.now l.work c.put_label.new.work c.unless_beaten-aboard.result l.invariant.unchanged next in
+    let next = c.put_label.ensures ∙ ap (λ x. set l.work (x + row.first + l.i) (record_of c.if_worth_following-aboard.result)) c.part_at.ensures in
+    let unchanged = unchanged_still (part_at (length s.stops.now) a.layer.number a.run.shift + row.first) l.i a.work.now l.work c.put_label.new.work c.if_worth_following-aboard.result l.invariant.unchanged next in
     linked_same s.stops.now a.layer.number (a.layer.number - 1) a.work.now c.put_label.new.work a.arrivals.now (omega arith) (λ z h. unchanged z (omega arith)) (c.requires.linked later)
 
 pub loop-i-preserved : goal.loop-i-preserved
@@ -60,7 +64,7 @@ loop-i-preserved g c =
     let t = s.tariff.now in
     let laws = g.met.P.Tariff in
     let m = g.P.Tariff.meaning t in
-    let basis : Basis m s.trains.now s.stops.now = record { connex = laws.connex t; transitive = laws.transitive t; keeps = laws.keeps t; starts = laws.starts t; counts = laws.counts t; timetable = timetable_of s } in
+    let basis : Basis m s.trains.now s.stops.now = record { connex = laws.connex t; transitive = laws.transitive t; grows = laws.grows t; keeps = laws.keeps t; starts = laws.starts t; counts = laws.counts t; timetable = timetable_of s } in
     let size = length s.stops.now in
     let layer = a.layer.number in
     let n = a.run.train in
@@ -71,15 +75,18 @@ loop-i-preserved g c =
     let li : l.i < row.count = omega (arith, c.loop-i-test.true) in
     let below = record_below size layer a.run.shift (row_of s.trains.now n l.i) (omega arith) in
     let room : part_at size layer a.run.shift + row.first + l.i < length l.work = omega (arith, below) in
-    let kept = c.unless_beaten-aboard.ensures ∙ ap (λ x. unless_beaten m size l.work x layer l.aboard) (ap (λ x. x + l.i) c.place-place.ensures ∙ add_assoc (number a.run.shift * size) row.first l.i) in
-    let next = c.put_label.ensures ∙ ap (λ x. set l.work (x + row.first + l.i) (record_of c.unless_beaten-aboard.result)) c.part_at.ensures in
-    filled_more m s.query.now s.trains.now s.stops.now layer n a.run.shift a.run.usable basis c.requires.in_force a.work.now l.work l.i l.found l.aboard c.unless_beaten-aboard.result l.invariant li room kept c.put_label.new.work next (l.found || c.is_some-found.result) c.match-get.aboard (ap (λ b. l.found || b) c.is_some-found.ensures)
+    let spot = ap (λ x. x + l.i) c.place-place.ensures ∙ add_assoc (number a.run.shift * size) row.first l.i in
+    let stop_is = ap (λ x. stop_at x l.i) c.stops-stops.ensures ∙ own_stop s.trains.now s.stops.now s.ordered n l.i li in
+    let ends = λ (stop : StopRow) (x : ℕ). cheaper_of (ends_no_dearer m) l.known (end_here (is_end stop s.query.now.destination) layer x c.if_worth_following-aboard.result) in
+    let known = c.with_label.ensures ∙ ap₂ ends stop_is spot in
+    let kept = c.if_worth_following-aboard.ensures ∙ ap (λ x. if_worth_following m size l.work x (known_total l.known) layer l.aboard) spot in
+    let next = c.put_label.ensures ∙ ap (λ x. set l.work (x + row.first + l.i) (record_of c.if_worth_following-aboard.result)) c.part_at.ensures in
+    filled_more m s.query.now s.trains.now s.stops.now layer n a.run.shift a.run.usable a.known.now basis c.requires.in_force a.work.now l.work l.i l.found l.aboard c.if_worth_following-aboard.result l.known c.with_label.result l.invariant li room kept c.put_label.new.work next known (l.found || c.is_some-found.result) c.match-get.aboard (ap (λ b. l.found || b) c.is_some-found.ensures)
     (elim c.match-get.branch [
       | in-Some w ↦
           let on : l.i + 1 < length c.stops-stops.result.now = ltb-true _ _ (sym w.in-Some.ensures.lookup.0) in
-          let stop_is = ap (λ x. stop_at x l.i) c.stops-stops.ensures ∙ own_stop s.trains.now s.stops.now s.ordered n l.i li in
           let there_is = get_or_read c.stops-stops.result.now (l.i + 1) _ on w.in-Some.ensures.lookup.1 _ ∙ ap (λ x. stop_at x (l.i + 1)) c.stops-stops.ensures ∙ own_stop s.trains.now s.stops.now s.ordered n (l.i + 1) (omega arith) in
-          comes_next m s.query.now s.trains.now s.stops.now layer n a.run.shift a.run.usable basis c.requires.in_force a.work.now l.work l.i l.found l.aboard c.unless_beaten-aboard.result l.invariant li room kept c.put_label.new.work next _ w.in-Some.next.now w.boarding-boarded.result c.match-get.aboard stop_is there_is (omega arith) w.boarding-boarded.ensures.settles (w.aboard-is ∙ w.ride_on-aboard.ensures)
+          comes_next m s.query.now s.trains.now s.stops.now layer n a.run.shift a.run.usable a.known.now basis c.requires.in_force a.work.now l.work l.i l.found l.aboard c.if_worth_following-aboard.result l.known c.with_label.result l.invariant li room kept c.put_label.new.work next known _ w.in-Some.next.now w.boarding-boarded.result c.match-get.aboard stop_is there_is (omega arith) w.boarding-boarded.ensures.settles (w.aboard-is ∙ w.ride_on-aboard.ensures)
       | in_default w ↦ λ runs may filled more. let none : length c.stops-stops.result.now ≤ l.i + 1 = ltb-false _ _ (sym w.in_default.ensures.lookup.0) in absurd (omega arith)
     ])
 
@@ -90,10 +97,10 @@ returns g c =
     let t = s.tariff.now in
     let laws = g.met.P.Tariff in
     let m = g.P.Tariff.meaning t in
-    let basis : Basis m s.trains.now s.stops.now = record { connex = laws.connex t; transitive = laws.transitive t; keeps = laws.keeps t; starts = laws.starts t; counts = laws.counts t; timetable = timetable_of s } in
+    let basis : Basis m s.trains.now s.stops.now = record { connex = laws.connex t; transitive = laws.transitive t; grows = laws.grows t; keeps = laws.keeps t; starts = laws.starts t; counts = laws.counts t; timetable = timetable_of s } in
     let n = a.run.train in
     let l = c.loop-i in
     let long : length c.stops-stops.result.now ≡ (train_row n s.trains.now).count = ap length c.stops-stops.ensures ∙ own_count s.trains.now s.stops.now s.ordered n c.requires.in_force in
     let end : l.i ≡ (train_row n s.trains.now).count = omega arith in
-    let state = subst (λ (i : ℕ). FilledTo m s.query.now s.trains.now s.stops.now a.layer.number n a.run.shift a.run.usable a.work.now l.work i l.found l.aboard) end l.invariant in
-    fills_run m s.query.now s.trains.now s.stops.now a.layer.number n a.run.shift a.run.usable basis c.requires.in_force a.work.now l.work l.found l.aboard state
+    let state = subst (λ (i : ℕ). FilledTo m s.query.now s.trains.now s.stops.now a.layer.number n a.run.shift a.run.usable a.known.now a.work.now l.work i l.found l.aboard l.known) end l.invariant in
+    fills_run m s.query.now s.trains.now s.stops.now a.layer.number n a.run.shift a.run.usable a.known.now basis c.requires.in_force a.work.now l.work l.found l.aboard l.known state

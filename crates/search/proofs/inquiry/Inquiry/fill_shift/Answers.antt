@@ -30,7 +30,7 @@ loop-train-preserved g c =
     let train = train_row l.train s.trains.now in
     let long = length-take-le count a.usable.now c.requires.each in
     let here = l.invariant.2 (omega arith) in
-    let before = subst (λ (r : ℕ). Fills (g.P.Tariff.meaning s.tariff.now) s.query.now s.trains.now s.stops.now a.layer.number (ShiftAsked s.query.now s.trains.now a.shift a.usable.now) a.work.now l.work (place size a.shift 0) (place size a.shift r) l.found) (sym here) l.invariant.1 in (
+    let before = subst (λ (r : ℕ). Fills (g.P.Tariff.meaning s.tariff.now) s.query.now s.trains.now s.stops.now a.layer.number (ShiftAsked s.query.now s.trains.now a.shift a.usable.now) a.work.now l.work (place size a.shift 0) (place size a.shift r) l.found a.known.now l.known) (sym here) l.invariant.1 in (
       train.first + train.count,
       fills_then s.ordered before c.fill_run-found.ensures (λ runs may. get_or-take count a.usable.now l.train false (omega arith) ∙ may l.train (omega arith)) (omega arith),
       λ h. ap (λ n. (train_row n s.trains.now).first) (add-one l.train) ∙ next_first s.trains.now s.stops.now s.ordered l.train (omega arith),
@@ -44,4 +44,4 @@ returns g c =
     let l = c.loop-train in
     let size = length s.stops.now in
     let long = length-take-le (length s.trains.now) a.usable.now c.requires.each in
-    subst (λ (r : ℕ). Fills (g.P.Tariff.meaning s.tariff.now) s.query.now s.trains.now s.stops.now a.layer.number (ShiftAsked s.query.now s.trains.now a.shift a.usable.now) a.work.now l.work (place size a.shift 0) (place size a.shift r) l.found) (l.invariant.3 (omega arith)) l.invariant.1
+    subst (λ (r : ℕ). Fills (g.P.Tariff.meaning s.tariff.now) s.query.now s.trains.now s.stops.now a.layer.number (ShiftAsked s.query.now s.trains.now a.shift a.usable.now) a.work.now l.work (place size a.shift 0) (place size a.shift r) l.found a.known.now l.known) (l.invariant.3 (omega arith)) l.invariant.1

@@ -1,0 +1,147 @@
+-- The cheapest end that is known, once one more record is written.
+use Rattle.std.proofs.Common.{◌≡◌, ℕ, suc, ◌+◌, ◌*◌, ◌<◌, ◌≤◌, Bool, true, false, cond, ◌||◌, T, List, length, set, Some, None, Option, sym, refl, ap, ◌∙◌, subst, ap₂, inl, inr, add_assoc, arith}
+use Rattle.std.proofs.lemmas.Bool.{cases_lt}
+use Rattle.std.proofs.lemmas.Option.{none-some, same_Some}
+use Rattle.tariff.specs.Laws.{Connex, Transitive}
+use Rattle.tariff.specs.Meaning.{Meaning}
+use Rattle.book.specs.Rules.{stop_at}
+use Rattle.book.specs.declared.rows.StopRow.{StopRow}
+use Rattle.connection.specs.Choosing.{cheaper}
+use Rattle.connection.specs.Settled.{Hopeless}
+use Rattle.connection.specs.Ways.{Either}
+use Rattle.connection.specs.declared.label.Label.{Label}
+use Rattle.connection.specs.declared.ride.Shift.{Shift}
+use Rattle.connection.proofs.Best.{best_same, best_cheaper}
+use Rattle.connection.proofs.Tests.{is_true}
+use Rattle.search.specs.Ends.{ends_no_dearer, known_total, end_of, is_end, end_here, Ends, Known, NoDearer}
+use Rattle.search.specs.Records.{record_of, label_of}
+use Rattle.search.specs.Working.{number, place, layer_at, part_at, label_at, label_in}
+use Rattle.search.specs.declared.ends.End.{End}
+use Rattle.search.specs.declared.record.WorkRecord.{WorkRecord}
+use Rattle.search.proofs.Chosen.{chosen_connex, chosen_trans, itself}
+use Rattle.search.proofs.Layering.{next_layer, layers_below}
+use Rattle.search.proofs.RowsAreTrains.{place_below, same_place}
+use Rattle.search.proofs.WrittenRecords.{written_same, written_here}
+
+-- ---- where a record stands tells its layer and its place there
+layer_first : (size k x k' x' : ℕ) → x < 3 * size → k < k' → layer_at size k + x < layer_at size k' + x'
+layer_first size k x k' x' h l = omega (arith, next_layer size k, layers_below size (suc k) k' (omega arith))
+
+pub layer_ahead : (size k x layers : ℕ) → layer_at size k + x < layer_at size layers → k < layers
+layer_ahead size k x layers h =
+    elim (cases_lt k layers) [ inl l ↦ l | inr g ↦ absurd (omega (arith, h, layers_below size layers k g)) ]
+
+place_ahead : (size k x k' x' : ℕ) → x < 3 * size → x' < 3 * size → layer_at size k + x ≡ layer_at size k' + x' → (k ≡ k') × (x ≡ x')
+place_ahead size k x k' x' h h' e =
+    let low : k' ≤ k = elim (cases_lt k k') [ inl l ↦ absurd (omega (arith, e, layer_first size k x k' x' h l)) | inr g ↦ g ] in
+    let high : k ≤ k' = elim (cases_lt k' k) [ inl l ↦ absurd (omega (arith, e, layer_first size k' x' k x h' l)) | inr g ↦ g ] in
+    let same : k ≡ k' = omega arith in
+    (same, omega (arith, e, ap (layer_at size) same))
+
+same_end : {A : Type 0} (a b : End A) → a.total ≡ b.total → a.layer ≡ b.layer → a.place ≡ b.place → a ≡ b
+same_end a b p q r i = record { total = p i; layer = q i; place = r i }
+
+module _ {A : Type 0} (m : Meaning A) (connex : Connex m) (transitive : Transitive m) where
+  pub none_known : (stops : List StopRow) (table : List (WorkRecord A)) (destination : ℕ) → Known stops table destination (layer_at (length stops) 0) m None
+  none_known stops table destination e x = absurd (omega (arith, x.ahead))
+
+  -- the cheaper of two makes hopeless what the first did
+  pub cheaper_no_dearer : (known p : Option (End A)) → NoDearer m known (cheaper (ends_no_dearer m) known p)
+  cheaper_no_dearer None p t h = absurd h
+  cheaper_no_dearer (Some a) None t h = h
+  cheaper_no_dearer (Some a) (Some b) t h = go (m.at_most a.total b.total) refl
+    where
+      go : (c : Bool) → m.at_most a.total b.total ≡ c → Hopeless m (known_total (cond c (Some a) (Some b))) t
+      go true e = h
+      go false e = transitive b.total a.total t (subst (λ (c : Bool). T (c || m.at_most b.total a.total)) e (connex a.total b.total)) h
+
+  -- ---- the record at a row of a layer is written
+  module _ (stops : List StopRow) (destination layer : ℕ) (s : Shift) (row at : ℕ) (inside : row < length stops) (at_is : at ≡ layer_at (length stops) layer + place (length stops) s row) (old new : List (WorkRecord A)) (o : Option (Label A)) (room : at < length old) (is_new : new ≡ set old at (record_of o)) where
+    abbrev size : ℕ
+    size = length stops
+
+    abbrev Before : End A → Type 0
+    Before = Ends stops old destination at
+
+    abbrev After : End A → Type 0
+    After = Ends stops new destination (at + 1)
+
+    abbrev here : Option (End A)
+    here = end_here (is_end (stop_at stops row) destination) layer (place size s row) o
+
+    stands_at : (k x : ℕ) (s' : Shift) (row' : ℕ) → x ≡ place size s' row' → part_at size k s' + row' ≡ layer_at size k + x
+    stands_at k x s' row' e = add_assoc (layer_at size k) (number s' * size) row' ∙ ap (λ y. layer_at size k + y) (sym e)
+
+    kept : (k : ℕ) (s' : Shift) (row' : ℕ) → part_at size k s' + row' < at → label_in size new k s' row' ≡ label_in size old k s' row'
+    kept k s' row' h =
+        ap (λ t. label_at t (part_at size k s' + row')) is_new ∙ ap label_of (written_same old at o (part_at size k s' + row') (inl h))
+
+    held_here : label_at new at ≡ o
+    held_here = ap (λ t. label_at t at) is_new ∙ written_here old at o room
+
+    made : (e : End A) (b : Bool) → is_end (stop_at stops row) destination ≡ b → (l : Option (Label A)) → o ≡ l → end_here b layer (place size s row) l ≡ Some e → After e
+    made e true eb None eo y = absurd (none-some e y)
+    made e true eb (Some l) eo y =
+        subst After (same_Some (end_of layer (place size s row) l) e y)
+        (record {
+          shift = s;
+          row = row;
+          label = l;
+          ahead = omega (arith, at_is);
+          inside = inside;
+          off = subst T (sym eb) tt;
+          held = ap (label_at new) (stands_at layer (place size s row) s row refl ∙ sym at_is) ∙ held_here ∙ eo;
+          total_is = refl;
+          place_is = refl;
+        })
+    made e false eb l eo y = absurd (none-some e y)
+
+    to_after : (e : End A) → Either Before (λ e. here ≡ Some e) e → After e
+    to_after e (inl x) =
+        record {
+          shift = x.shift;
+          row = x.row;
+          label = x.label;
+          ahead = omega (arith, x.ahead);
+          inside = x.inside;
+          off = x.off;
+          held = kept e.layer x.shift x.row (omega (arith, x.ahead, stands_at e.layer e.place x.shift x.row x.place_is)) ∙ x.held;
+          total_is = x.total_is;
+          place_is = x.place_is;
+        }
+    to_after e (inr y) = made e (is_end (stop_at stops row) destination) refl o refl y
+
+    is_here : (e : End A) → After e → layer_at size e.layer + e.place ≡ at → here ≡ Some e
+    is_here e x f =
+        let far : e.place < 3 * size = omega (arith, x.place_is, place_below x.shift size x.row x.inside) in
+        let where_is = place_ahead size e.layer e.place layer (place size s row) far (place_below s size row inside) (f ∙ at_is) in
+        let which = same_place x.shift s size x.row row x.inside inside (sym x.place_is ∙ where_is.1) in
+        let off : T (is_end (stop_at stops row) destination) = subst (λ (r : ℕ). T (is_end (stop_at stops r) destination)) which.1 x.off in
+        let held : o ≡ Some x.label = sym held_here ∙ ap (label_at new) (sym (stands_at e.layer e.place x.shift x.row x.place_is ∙ f)) ∙ x.held in
+        ap₂ (λ b l. end_here b layer (place size s row) l) (is_true _ off) held
+        ∙ ap Some (same_end (end_of layer (place size s row) x.label) e (sym x.total_is) (sym where_is.0) (sym where_is.1))
+
+    from_after : (e : End A) → After e → Either Before (λ e. here ≡ Some e) e
+    from_after e x =
+        elim (cases_lt (layer_at size e.layer + e.place) at) [
+          | inl h ↦
+              inl
+              (record {
+                shift = x.shift;
+                row = x.row;
+                label = x.label;
+                ahead = h;
+                inside = x.inside;
+                off = x.off;
+                held = sym (kept e.layer x.shift x.row (omega (arith, h, stands_at e.layer e.place x.shift x.row x.place_is))) ∙ x.held;
+                total_is = x.total_is;
+                place_is = x.place_is;
+              })
+          | inr h ↦ inr (is_here e x (omega (arith, h, x.ahead)))
+        ]
+
+    pub known_more : (known known' : Option (End A)) → known' ≡ cheaper (ends_no_dearer m) known here → Known stops old destination at m known → Known stops new destination (at + 1) m known'
+    known_more known known' e best =
+        rw e
+        (best_same (ends_no_dearer m) (Either Before (λ e. here ≡ Some e)) After (cheaper (ends_no_dearer m) known here) to_after from_after
+        (best_cheaper (ends_no_dearer m) (chosen_connex m connex transitive (λ (e : End A). e.total)) (chosen_trans m connex transitive (λ (e : End A). e.total)) Before (λ e. here ≡ Some e) known here best (itself m connex transitive (λ (e : End A). e.total) here)))
