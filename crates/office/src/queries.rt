@@ -11,9 +11,9 @@ use search::search;
 use std::fmt;
 use std::io::{BufRead, BufReader};
 use tariff::Tariff;
-use tariff::fares::Fares;
-use tariff::minutes::Minutes;
-use tariff::waits::Waits;
+use tariff::fares::{FareTotal, Fares};
+use tariff::minutes::{MinuteTotal, Minutes};
+use tariff::waits::{WaitTotal, Waits};
 
 // As many rides as a query may allow.
 const MOST_RIDES: usize = 16;
@@ -25,6 +25,25 @@ const UNUSED: Ride = Ride {
     alight: 0,
 };
 
+// The tables that searches work in, one for each tariff. They grow to the longest that a query needs, and are lent to one
+// query after another.
+#[derive(Drop)]
+struct WorkTables {
+    minutes: Vec<WorkRecord<MinuteTotal>>,
+    fares: Vec<WorkRecord<FareTotal>>,
+    waits: Vec<WorkRecord<WaitTotal>>,
+}
+
+impl WorkTables {
+    fn new(rt: &HostRuntime) -> WorkTables {
+        WorkTables {
+            minutes: Vec::new(rt.alloc()),
+            fares: Vec::new(rt.alloc()),
+            waits: Vec::new(rt.alloc()),
+        }
+    }
+}
+
 // The cheapest connection under the tariff, ride by ride, and what it costs; or why there is none.
 fn print_found<P: Tariff, C: Calendar>(
     rt: &HostRuntime,
@@ -32,6 +51,7 @@ fn print_found<P: Tariff, C: Calendar>(
     tariff: &P,
     calendar: &C,
     query: Query,
+    work: &mut Vec<WorkRecord<P::Total>>,
 ) -> anyhow::Result<()>
 where
     P::Total: fmt::Display,
@@ -43,9 +63,19 @@ where
         ..
     } = timetable;
     let mut rides = [UNUSED; MOST_RIDES];
-    let mut work = vec![in rt.alloc(); WorkRecord::blank(); timetable.records_for(query)]?;
+    let records = timetable.records_for(query);
+    if work.len() < records {
+        work.resize(records, WorkRecord::blank())?;
+    }
     match search(
-        book, trains, stops, tariff, calendar, query, &mut rides, &mut work,
+        book,
+        trains,
+        stops,
+        tariff,
+        calendar,
+        query,
+        &mut rides,
+        &mut work[..records],
     ) {
         Ok((total, count)) => {
             for ride in &rides[..count] {
@@ -69,20 +99,21 @@ fn print_answer<C: Calendar>(
     timetable: &Timetable,
     calendar: &C,
     question: Question,
+    work: &mut WorkTables,
 ) -> anyhow::Result<()> {
     println!(rt; "{question}")?;
     let Question { query, tariff } = question;
     match tariff {
         Asked::Minutes { penalty } => match Minutes::new(penalty) {
-            Ok(tariff) => print_found(rt, timetable, &tariff, calendar, query),
+            Ok(tariff) => print_found(rt, timetable, &tariff, calendar, query, &mut work.minutes),
             Err(refusal) => {
                 let number = refusal.number();
                 println!(rt; "  refused {number}: {refusal}")?;
                 Ok(())
             }
         },
-        Asked::Fares => print_found(rt, timetable, &Fares, calendar, query),
-        Asked::Waits => print_found(rt, timetable, &Waits, calendar, query),
+        Asked::Fares => print_found(rt, timetable, &Fares, calendar, query, &mut work.fares),
+        Asked::Waits => print_found(rt, timetable, &Waits, calendar, query, &mut work.waits),
     }
 }
 
@@ -92,6 +123,7 @@ pub fn answer_all<C: Calendar>(
     timetable: &Timetable,
     calendar: &C,
 ) -> anyhow::Result<()> {
+    let mut work = WorkTables::new(rt);
     let lines = BufReader::new(rt.alloc(), rt.stdin())?.split(rt.alloc(), b'\n');
     for (index, line) in lines.enumerate() {
         let line = line?;
@@ -99,7 +131,7 @@ pub fn answer_all<C: Calendar>(
             continue;
         }
         match asked_by(&line) {
-            Ok(question) => print_answer(rt, timetable, calendar, question)?,
+            Ok(question) => print_answer(rt, timetable, calendar, question, &mut work)?,
             Err(expected) => println!(rt; "  LINE {}: expected {expected}", index + 1)?,
         }
         println!(rt; "")?;

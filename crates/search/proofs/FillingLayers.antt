@@ -10,11 +10,12 @@ use Rattle.connection.specs.declared.query.Query.{Query}
 use Rattle.connection.specs.declared.ride.Shift.{Shift}
 use Rattle.connection.specs.declared.ride.Shift.TheVariants.{DayBefore, SameDay, DayAfter}
 use Rattle.search.specs.Ends.{known_total, Known}
-use Rattle.search.specs.Layers.{InOrder, row_of, Holds, Filled, UnchangedBelow, Fills}
+use Rattle.search.specs.Layers.{InOrder, row_of, Holds, Filled, UnchangedBelow, BlankFrom, Fills}
 use Rattle.search.specs.Records.{label_of}
 use Rattle.search.specs.Working.{number, place, layer_at, part_at, label_in}
 use Rattle.search.specs.declared.ends.End.{End}
 use Rattle.search.specs.declared.record.WorkRecord.{WorkRecord}
+use Rattle.search.proofs.BlankRecords.{blank_less}
 use Rattle.search.proofs.FillingRuns.{or_none}
 use Rattle.search.proofs.Layering.{next_layer}
 use Rattle.search.proofs.RowsAreTrains.{fits, place_below}
@@ -25,6 +26,7 @@ module _ {A : Type 0} {m : Meaning A} {q : Query} {rows : List TrainRow} {stops 
   fills_none =
       record {
         unchanged = λ z h. refl;
+        blank = λ h. h;
         nothing = λ e n s i ln li low high. absurd (omega arith);
         known = λ h. h;
         no_dearer = λ t h. h;
@@ -50,6 +52,7 @@ module _ {A : Type 0} {m : Meaning A} {q : Query} {rows : List TrainRow} {stops 
     fills_then =
         record {
           unchanged = unchanged_then (layer_at (length stops) layer + x) (layer_at (length stops) layer + y) old mid new (omega arith) a.unchanged b.unchanged;
+          blank = λ h. b.blank (a.blank h);
           nothing = λ e n s i ln li low high.
               let none = or_none found found' e in
               of_both (λ n s i o. o ≡ None) n s i (λ h. a.nothing none.0 n s i ln li low h) (λ h. b.nothing none.1 n s i ln li h high);
@@ -85,6 +88,12 @@ module _ {A : Type 0} {m : Meaning A} {q : Query} {rows : List TrainRow} {stops 
       let begins : layer_at (length stops) layer ≡ layer_at (length stops) layer + 0 = omega arith in
       let ends : layer_at (length stops) layer + 3 * length stops ≡ layer_at (length stops) (layer + 1) = sym (ap (layer_at (length stops)) (add-one layer) ∙ next_layer (length stops) layer) in
       subst (λ (x : ℕ). Known stops new q.destination x m after) ends (fills.known (subst (λ (x : ℕ). Known stops old q.destination x m before) begins h))
+
+  pub blank_layer : {May : Pairs → Type 0} {old new : List (WorkRecord A)} {found : Bool} {before after : Option (End A)} → Fills m q rows stops layer May old new 0 (3 * length stops) found before after → BlankFrom (layer_at (length stops) layer) old → BlankFrom (layer_at (length stops) (layer + 1)) new
+  blank_layer {May} {old} {new} fills h =
+      let size = length stops in
+      blank_less (layer_at size layer + 3 * size) (layer_at size (layer + 1)) new (omega (arith, ap (layer_at size) (add-one layer) ∙ next_layer size layer))
+      (fills.blank (blank_less (layer_at size layer) (layer_at size layer + 0) old (omega arith) h))
 
   pub moved_to : {May : Pairs → Type 0} {old new : List (WorkRecord A)} {x x' y y' : ℕ} {found : Bool} {before after : Option (End A)} → x ≡ x' → y ≡ y' → Fills m q rows stops layer May old new x y found before after → Fills m q rows stops layer May old new x' y' found before after
   moved_to {May} {old} {new} {x} {x'} {y} {y'} {found} {before} {after} ex ey f =

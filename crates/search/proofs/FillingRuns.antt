@@ -20,13 +20,14 @@ use Rattle.connection.specs.declared.ride.Shift.{Shift}
 use Rattle.connection.proofs.Onward.{settles_first_stop, settles_next_stop, settles_excused}
 use Rattle.connection.proofs.Times.{Punctual, on_time}
 use Rattle.search.specs.Ends.{ends_no_dearer, known_total, is_end, end_here, Known, NoDearer}
-use Rattle.search.specs.Layers.{row_of, Trail, Holds, Filled, UnchangedBelow, NoLabelBetween, SettledBetween, Fills, RunAsked, run_begins, run_ends}
+use Rattle.search.specs.Layers.{row_of, Trail, Holds, Filled, UnchangedBelow, BlankFrom, NoLabelBetween, SettledBetween, Fills, RunAsked, run_begins, run_ends}
 use Rattle.search.specs.Records.{record_of, label_of}
-use Rattle.search.specs.Working.{may_use, number, place, layer_at, part_at, label_at, label_in, hopeless, beaten, if_worth_following}
+use Rattle.search.specs.Working.{number, place, layer_at, part_at, label_at, label_in, hopeless, beaten, if_worth_following}
 use Rattle.search.specs.declared.ends.End.{End}
 use Rattle.search.specs.declared.record.WorkRecord.{WorkRecord}
 use Rattle.search.proofs.Basis.{Basis}
 use Rattle.search.proofs.BeatenLabels.{Beater, beater}
+use Rattle.search.proofs.BlankRecords.{blank_less, blank_behind}
 use Rattle.search.proofs.Chaining.{not_some}
 use Rattle.search.proofs.KnownEnds.{cheaper_no_dearer, known_more}
 use Rattle.search.proofs.RowsAreTrains.{fits, count_is, stop_is, same_row, same_place}
@@ -43,7 +44,7 @@ module _ {A : Type 0} (m : Meaning A) where
   is_hopeless None t e = let z : ◌≡◌ {A = ℕ} 0 1 = cc in absurd (omega arith)
   is_hopeless (Some best) t e = subst T (sym e) tt
 
-module _ {A : Type 0} (m : Meaning A) (q : Query) (rows : List TrainRow) (stops : List StopRow) (layer n : ℕ) (s : Shift) (usable : Bool) (before : Option (End A)) where
+module _ {A : Type 0} (m : Meaning A) (q : Query) (rows : List TrainRow) (stops : List StopRow) (layer n : ℕ) (s : Shift) (before : Option (End A)) where
   abbrev size : ℕ
   size = length stops
 
@@ -58,11 +59,12 @@ module _ {A : Type 0} (m : Meaning A) (q : Query) (rows : List TrainRow) (stops 
 
   -- if the calendar says so, and the layers before are filled
   abbrev When : (Pairs → Type 0) → List (WorkRecord A) → Type 0
-  When P table = (runs : Pairs) → usable ≡ may_use runs q (train_row n rows) s → Filled m runs q rows stops (known_total before) table layer → P runs
+  When P table = (runs : Pairs) → RunAsked q (train_row n rows) s true runs → Filled m runs q rows stops (known_total before) table layer → P runs
 
   -- the run up to its stop i; `before` was the cheapest known end ahead of it, `known` is it now
   pub record FilledTo (old new : List (WorkRecord A)) (i : ℕ) (found : Bool) (aboard : Option (Label A)) (known : Option (End A)) : Type 0 where
     pub unchanged : UnchangedBelow start old new
+    pub blank : BlankFrom (start + i) new
     pub nothing : found ≡ false → (j : ℕ) → j < i → label_at new (start + j) ≡ None
     pub known_end : Known stops old q.destination (layer_at size layer + place size s first) m before → Known stops new q.destination (start + i) m known
     pub no_dearer : NoDearer m before known
@@ -82,10 +84,11 @@ module _ {A : Type 0} (m : Meaning A) (q : Query) (rows : List TrainRow) (stops 
     punctual : (k : ℕ) → Punctual (stops_at trains k)
     punctual = on_time trains basis.timetable.lawful
 
-    pub filled_none : (old : List (WorkRecord A)) → FilledTo old old 0 false None before
-    filled_none old =
+    pub filled_none : (old : List (WorkRecord A)) → BlankFrom (layer_at size layer + place size s first) old → FilledTo old old 0 false None before
+    filled_none old b =
         record {
           unchanged = λ z h. refl;
+          blank = blank_less (layer_at size layer + place size s first) (start + 0) old (omega (arith, start_is)) b;
           nothing = λ e j h. absurd (omega arith);
           known_end = subst (λ (x : ℕ). Known stops old q.destination x m before) (omega (arith, start_is));
           no_dearer = λ t h. h;
@@ -163,6 +166,7 @@ module _ {A : Type 0} (m : Meaning A) (q : Query) (rows : List TrainRow) (stops 
       filled_more found' aboard' ef coming =
           record {
             unchanged = next_unchanged;
+            blank = blank_less (start + i + 1) (start + (i + 1)) next (omega arith) (blank_behind (start + i) new next KeptLabel state.blank is_next);
             nothing = λ e. let p = or_none found (is_some KeptLabel) (sym ef ∙ e) in up_to (λ j o. o ≡ None) (state.nothing p.0) (not_some KeptLabel p.1);
             known_end = next_known;
             no_dearer = λ t h. better t (state.no_dearer t h);
@@ -171,7 +175,7 @@ module _ {A : Type 0} (m : Meaning A) (q : Query) (rows : List TrainRow) (stops 
           }
 
       -- ---- on to the next stop
-      pub comes_next : (stop there : StopRow) (boarded aboard' : Option (Label A)) → stop ≡ stop_at stops (row_of rows n i) → there ≡ stop_at stops (row_of rows n (i + 1)) → i + 1 < count → ((runs : Pairs) (best : Option A) → usable ≡ may_use runs q (train_row n rows) s → Filled m runs q rows stops best next layer → SettlesBoarding m trains runs q (Trail rows size next layer) best layer n s i boarded) → aboard' ≡ mapped (extended m (hop stop there)) (cheaper (no_dearer m) boarded (mapped (extended m (stand stop)) KeptLabel)) → When (λ runs. i + 1 < count → Still runs (i + 1) aboard') old
+      pub comes_next : (stop there : StopRow) (boarded aboard' : Option (Label A)) → stop ≡ stop_at stops (row_of rows n i) → there ≡ stop_at stops (row_of rows n (i + 1)) → i + 1 < count → ((runs : Pairs) (best : Option A) → RunAsked q (train_row n rows) s true runs → Filled m runs q rows stops best next layer → SettlesBoarding m trains runs q (Trail rows size next layer) best layer n s i boarded) → aboard' ≡ mapped (extended m (hop stop there)) (cheaper (no_dearer m) boarded (mapped (extended m (stand stop)) KeptLabel)) → When (λ runs. i + 1 < count → Still runs (i + 1) aboard') old
       comes_next stop there boarded aboard' at_stop at_there on boards ea runs may filled h =
           let ss = stops_at trains n in
           let below : UnchangedBelow (layer_at size layer) old next = λ z w. next_unchanged z (omega (arith, layer_before_start)) in
@@ -190,7 +194,7 @@ module _ {A : Type 0} (m : Meaning A) (q : Query) (rows : List TrainRow) (stops 
 
     -- ---- the whole run
     -- a place between the run's first and last is one of its stops
-    of_the_run : (P : ℕ → Shift → ℕ → Type 0) (n' : ℕ) (s' : Shift) (i' : ℕ) → n' < length rows → i' < (train_row n' rows).count → place size s first ≤ place size s' (row_of rows n' i') → place size s' (row_of rows n' i') < place size s (row_of rows n count) → ((i : ℕ) → i < count → P n s i) → P n' s' i'
+    pub of_the_run : (P : ℕ → Shift → ℕ → Type 0) (n' : ℕ) (s' : Shift) (i' : ℕ) → n' < length rows → i' < (train_row n' rows).count → place size s first ≤ place size s' (row_of rows n' i') → place size s' (row_of rows n' i') < place size s (row_of rows n count) → ((i : ℕ) → i < count → P n s i) → P n' s' i'
     of_the_run P n' s' i' ln' li' low high all =
         let mine = fits rows stops basis.timetable.ordered n ln in
         let its = fits rows stops basis.timetable.ordered n' ln' in
@@ -222,5 +226,8 @@ module _ {A : Type 0} (m : Meaning A) (q : Query) (rows : List TrainRow) (stops 
           let end : start + count ≡ layer_at size layer + place size s (row_of rows n count) = omega (arith, start_is, add_assoc (number s * size) first count) in
           subst (λ (x : ℕ). Known stops new q.destination x m known) end (state.known_end h)
 
-      pub fills_run : Fills m q rows stops layer (RunAsked q (train_row n rows) s usable) old new (run_begins rows size n s) (run_ends rows size n s) found before known
-      fills_run = record { unchanged = run_unchanged; nothing = run_nothing; known = run_known; no_dearer = state.no_dearer; settled = run_settled }
+      run_blank : BlankFrom (layer_at size layer + place size s (row_of rows n count)) new
+      run_blank = blank_less (start + count) (layer_at size layer + place size s (row_of rows n count)) new (omega (arith, start_is, add_assoc (number s * size) first count)) state.blank
+
+      pub fills_run : Fills m q rows stops layer (RunAsked q (train_row n rows) s true) old new (run_begins rows size n s) (run_ends rows size n s) found before known
+      fills_run = record { unchanged = run_unchanged; blank = λ h. run_blank; nothing = run_nothing; known = run_known; no_dearer = state.no_dearer; settled = run_settled }

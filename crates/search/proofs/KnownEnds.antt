@@ -14,10 +14,12 @@ use Rattle.connection.specs.declared.ride.Shift.{Shift}
 use Rattle.connection.proofs.Best.{best_same, best_cheaper}
 use Rattle.connection.proofs.Tests.{is_true}
 use Rattle.search.specs.Ends.{ends_no_dearer, known_total, end_of, is_end, end_here, Ends, Known, NoDearer}
+use Rattle.search.specs.Layers.{BlankFrom}
 use Rattle.search.specs.Records.{record_of, label_of}
 use Rattle.search.specs.Working.{number, place, layer_at, part_at, label_at, label_in}
 use Rattle.search.specs.declared.ends.End.{End}
 use Rattle.search.specs.declared.record.WorkRecord.{WorkRecord}
+use Rattle.search.proofs.BlankRecords.{blank_label}
 use Rattle.search.proofs.Chosen.{chosen_connex, chosen_trans, itself}
 use Rattle.search.proofs.Layering.{next_layer, layers_below}
 use Rattle.search.proofs.RowsAreTrains.{place_below, same_place}
@@ -54,6 +56,23 @@ module _ {A : Type 0} (m : Meaning A) (connex : Connex m) (transitive : Transiti
       go : (c : Bool) → m.at_most a.total b.total ≡ c → Hopeless m (known_total (cond c (Some a) (Some b))) t
       go true e = h
       go false e = transitive b.total a.total t (subst (λ (c : Bool). T (c || m.at_most b.total a.total)) e (connex a.total b.total)) h
+
+  -- ---- over blank records nothing more is known
+  pub known_over : (stops : List StopRow) (destination b c : ℕ) (table : List (WorkRecord A)) (known : Option (End A)) → b ≤ c → BlankFrom b table → Known stops table destination b m known → Known stops table destination c m known
+  known_over stops destination b c table known l h =
+      best_same (ends_no_dearer m) (Ends stops table destination b) (Ends stops table destination c) known
+      (λ e x. record { shift = x.shift; row = x.row; label = x.label; ahead = omega (arith, l, x.ahead); inside = x.inside; off = x.off; held = x.held; total_is = x.total_is; place_is = x.place_is })
+      (λ e x. record { shift = x.shift; row = x.row; label = x.label; ahead = short e x; inside = x.inside; off = x.off; held = x.held; total_is = x.total_is; place_is = x.place_is })
+    where
+      short : (e : End A) → Ends stops table destination c e → layer_at (length stops) e.layer + e.place < b
+      short e x =
+          elim (cases_lt (layer_at (length stops) e.layer + e.place) b) [
+            | inl g ↦ g
+            | inr g ↦
+                let at = part_at (length stops) e.layer x.shift + x.row in
+                let far : b ≤ at = omega (arith, g, x.place_is, add_assoc (layer_at (length stops) e.layer) (number x.shift * length stops) x.row) in
+                absurd (none-some x.label (sym (blank_label b at table h far) ∙ x.held))
+          ]
 
   -- ---- the record at a row of a layer is written
   module _ (stops : List StopRow) (destination layer : ℕ) (s : Shift) (row at : ℕ) (inside : row < length stops) (at_is : at ≡ layer_at (length stops) layer + place (length stops) s row) (old new : List (WorkRecord A)) (o : Option (Label A)) (room : at < length old) (is_new : new ≡ set old at (record_of o)) where
@@ -145,3 +164,12 @@ module _ {A : Type 0} (m : Meaning A) (connex : Connex m) (transitive : Transiti
         rw e
         (best_same (ends_no_dearer m) (Either Before (λ e. here ≡ Some e)) After (cheaper (ends_no_dearer m) known here) to_after from_after
         (best_cheaper (ends_no_dearer m) (chosen_connex m connex transitive (λ (e : End A). e.total)) (chosen_trans m connex transitive (λ (e : End A). e.total)) Before (λ e. here ≡ Some e) known here best (itself m connex transitive (λ (e : End A). e.total) here)))
+
+-- ---- where no label is kept, no end is
+pub no_end_here : {A : Type 0} (b : Bool) (k x : ℕ) → end_here {A = A} b k x None ≡ None
+no_end_here true k x = refl
+no_end_here false k x = refl
+
+pub cheaper_none : {A : Type 0} (m : Meaning A) (known : Option (End A)) → known ≡ cheaper (ends_no_dearer m) known None
+cheaper_none m None = refl
+cheaper_none m (Some e) = refl

@@ -1,12 +1,14 @@
 mod Basis
 mod BeatenLabels
 mod BestChange
+mod BlankRecords
 mod Chaining
 mod CheapestEnd
 mod Chosen
 mod FillingLayers
 mod FillingRuns
 mod Guaranteed
+mod IdleRuns
 mod KnownEnds
 mod LabelsInRecords
 mod Layering

@@ -72,6 +72,10 @@ module _ {A : Type 0} where
   abbrev pub UnchangedBelow : ℕ → List (WorkRecord A) → List (WorkRecord A) → Type 0
   UnchangedBelow b old new = (z : ℕ) → z < b → slice_index_or new z blank ≡ slice_index_or old z blank
 
+  -- the records from the place b on are blank
+  abbrev pub BlankFrom : ℕ → List (WorkRecord A) → Type 0
+  BlankFrom b table = (z : ℕ) → b ≤ z → slice_index_or table z blank ≡ blank
+
   -- between two places of the layer k there is no label
   abbrev pub NoLabelBetween : List TrainRow → ℕ → List (WorkRecord A) → ℕ → ℕ → ℕ → Type 0
   NoLabelBetween rows size table k x y =
@@ -89,6 +93,7 @@ module _ {A : Type 0} (m : Meaning A) (q : Query) (rows : List TrainRow) (stops 
   -- is there; before and after are the cheapest ends that are known
   pub record Fills (k : ℕ) (May : Pairs → Type 0) (old new : List (WorkRecord A)) (x y : ℕ) (found : Bool) (before after : Option (End A)) : Type 0 where
     pub unchanged : UnchangedBelow (layer_at (length stops) k + x) old new
+    pub blank : BlankFrom (layer_at (length stops) k + x) old → BlankFrom (layer_at (length stops) k + y) new
     pub nothing : found ≡ false → NoLabelBetween rows (length stops) new k x y
     pub known : Known stops old q.destination (layer_at (length stops) k + x) m before → Known stops new q.destination (layer_at (length stops) k + y) m after
     pub no_dearer : NoDearer m before after
@@ -119,5 +124,6 @@ AllLayers rows size table q layers = (layers ≡ q.changes + 1) ⊎ ((k : ℕ) �
 pub record AllFilled {A : Type 0} (m : Meaning A) (q : Query) (rows : List TrainRow) (stops : List StopRow) (May : Pairs → Type 0) (table : List (WorkRecord A)) (end : Option (End A)) (layers : ℕ) : Type 0 where
   pub few : layers ≤ q.changes + 1
   pub all : AllLayers rows (length stops) table q layers
+  pub blank : BlankFrom (layer_at (length stops) layers) table
   pub known : Known stops table q.destination (layer_at (length stops) layers) m end
   pub filled : (runs : Pairs) → May runs → Filled m runs q rows stops (known_total end) table layers

@@ -1,5 +1,6 @@
 -- The records of a work table.
-use Rattle.std.specs.Prelude.{Some, None, Option}
+use Rattle.std.specs.Prelude.{Bool, ◌&&◌, Some, None, Option, ◌==◌}
+use Rattle.std.specs.Option.{is_none}
 use Rattle.connection.specs.declared.label.Label.{Label}
 use Rattle.search.specs.declared.record.WorkRecord.{WorkRecord}
 
@@ -7,6 +8,9 @@ module _ {A : Type 0} where
   -- no total, and numbers 0
   abbrev pub blank : WorkRecord A
   blank = record { total = None; board = 0; from = 0 }
+
+  abbrev pub is_blank : WorkRecord A → Bool
+  is_blank r = is_none r.total && (r.board == 0 && r.from == 0)
 
   -- a record holds a label, or none
   abbrev pub record_of : Option (Label A) → WorkRecord A

@@ -1,5 +1,5 @@
 // Boarding a run: at the origin, or after a change.
-ghost use Rattle.std.specs.Prelude.{◌≡◌, ◌+◌, ◌-◌, ◌*◌, ◌<◌, ◌≤◌, ◌&&◌, length, Option, Some, ◌==◌, nat_le};
+ghost use Rattle.std.specs.Prelude.{◌≡◌, ◌+◌, ◌-◌, ◌*◌, ◌<◌, ◌≤◌, ◌&&◌, length, true, Option, Some, ◌==◌, nat_le};
 ghost use Rattle.tariff.specs.declared.step.Kind.TheVariants.{Start as AtStart};
 ghost use Rattle.book.specs.Answers.{train_row};
 ghost use Rattle.book.specs.Limits.{last_station};
@@ -15,8 +15,8 @@ ghost use Rattle.connection.specs.Settled.{no_dearer, SettlesBoarding};
 ghost use Rattle.connection.specs.Ways.{Best};
 ghost use Rattle.search.specs.Changing.{changed, ChangesOn, Changes};
 ghost use Rattle.search.specs.Chains.{Linked, LinkedBefore};
-ghost use Rattle.search.specs.Layers.{Trail, Filled};
-ghost use Rattle.search.specs.Working.{may_use, place as place_of, label_in, HasLayers};
+ghost use Rattle.search.specs.Layers.{Trail, Filled, RunAsked};
+ghost use Rattle.search.specs.Working.{place as place_of, label_in, HasLayers};
 
 use crate::chains::Arrivals;
 use crate::choosing::{cheaper, cheapest_of_shifts};
@@ -33,7 +33,7 @@ use tariff::Tariff;
 use tariff::step::Kind;
 
 impl<P: Tariff> Inquiry<'_, P> {
-    // The label of who boards the run at its stop `i`, after as many changes as the layer has.
+    // The label of who boards the run at its stop `i`, after as many changes as the layer has, if the query may use the run.
     pub fn boarding(
         &self,
         work: &[WorkRecord<P::Total>],
@@ -46,11 +46,11 @@ impl<P: Tariff> Inquiry<'_, P> {
         requires linked { LinkedBefore self.now.stops.now work.now layer.number arrivals.now }
         requires in_force { run.train < length self.now.trains.now }
         requires on_the_train { i < (train_row run.train self.now.trains.now).count }
-        ensures settles { (runs : Pairs) (known : Option _) → run.usable ≡ may_use runs self.now.query.now (train_row run.train self.now.trains.now) run.shift → Filled (P.Tariff.meaning self.now.tariff.now) runs self.now.query.now self.now.trains.now self.now.stops.now known work.now layer.number → SettlesBoarding (P.Tariff.meaning self.now.tariff.now) (trains_in self.now.trains.now self.now.stops.now) runs self.now.query.now (Trail self.now.trains.now (length self.now.stops.now) work.now layer.number) known layer.number run.train run.shift i result }
+        ensures settles { (runs : Pairs) (known : Option _) → RunAsked self.now.query.now (train_row run.train self.now.trains.now) run.shift true runs → Filled (P.Tariff.meaning self.now.tariff.now) runs self.now.query.now self.now.trains.now self.now.stops.now known work.now layer.number → SettlesBoarding (P.Tariff.meaning self.now.tariff.now) (trains_in self.now.trains.now self.now.stops.now) runs self.now.query.now (Trail self.now.trains.now (length self.now.stops.now) work.now layer.number) known layer.number run.train run.shift i result }
     {
         let row = self.trains[run.train].first as usize + i;
         let stop = &self.stops[row];
-        if !run.usable || !may_board(stop) {
+        if !may_board(stop) {
             return None;
         }
         let board = i as u8;

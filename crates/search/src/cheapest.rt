@@ -2,6 +2,7 @@
 ghost use Rattle.std.specs.Prelude.{◌≡◌, ◌+◌, ◌≤◌, length, replicate};
 ghost use Rattle.book.specs.Trains.{trains_in};
 ghost use Rattle.search.specs.Answers.{FoundOrNone, rides_left};
+ghost use Rattle.search.specs.Layers.{BlankFrom};
 ghost use Rattle.search.specs.Records.{blank};
 ghost use Rattle.search.specs.Working.{HasLayers};
 
@@ -14,7 +15,8 @@ use connection::ride::Ride;
 use tariff::Tariff;
 
 impl<P: Tariff> Inquiry<'_, P> {
-    // Fills the layers, and writes the rides that led to the cheapest label at the destination.
+    // Fills the layers of a blank table, writes the rides that led to the cheapest label at the destination, and blanks the
+    // table again.
     pub fn cheapest<C: Calendar>(
         &self,
         calendar: &C,
@@ -23,16 +25,23 @@ impl<P: Tariff> Inquiry<'_, P> {
     ) -> Result<(P::Total, usize), Refusal>
         requires space { self.now.query.now.changes + 1 ≤ length rides.old }
         requires within { HasLayers (length self.now.stops.now) work.old (self.now.query.now.changes + 1) }
+        requires blank { BlankFrom 0 work.old }
         ensures found { FoundOrNone (P.Tariff.meaning self.now.tariff.now) (C.Calendar.runs calendar.now) (trains_in self.now.trains.now self.now.stops.now) self.now.query.now result rides.new }
         ensures rides { rides.new ≡ rides_left result rides.old rides.new }
+        ensures work { work.new ≡ replicate (length work.old) blank }
     {
         let usable = self.usable(calendar);
-        let end = self
-            .fill_layers(work, &usable)
-            .ok_or(Refusal::NoConnection)?;
-        let layer = Layer { number: end.layer };
-        self.write_rides(work, layer, end.place, rides);
-        Ok((end.total, end.layer + 1))
+        let (layers, end) = self.fill_layers(work, &usable);
+        let found = match end {
+            Some(end) => {
+                let layer = Layer { number: end.layer };
+                self.write_rides(work, layer, end.place, rides);
+                Ok((end.total, end.layer + 1))
+            }
+            None => Err(Refusal::NoConnection),
+        };
+        blank_all(&mut work[..layers * (3 * self.stops.len())]);
+        found
     }
 }
 
@@ -40,5 +49,7 @@ impl<P: Tariff> Inquiry<'_, P> {
 pub fn blank_all<T: Copy>(work: &mut [WorkRecord<T>])
     ensures { work.new ≡ replicate (length work.old) blank }
 {
-    work.fill(WorkRecord::blank());
+    for record in work.iter_mut() {
+        record.clear();
+    }
 }

@@ -1,5 +1,5 @@
 // The labels at the destination, of which the cheapest is the answer.
-ghost use Rattle.std.specs.Prelude.{◌≡◌};
+ghost use Rattle.std.specs.Prelude.{◌≡◌, Some};
 ghost use Rattle.connection.specs.Choosing.{cheaper as cheaper_of};
 ghost use Rattle.search.specs.Ends.{ends_no_dearer, is_end, end_here};
 
@@ -35,18 +35,18 @@ impl<P: Tariff> Inquiry<'_, P> {
         stop: &StopRow,
         layer: Layer,
         place: usize,
-        label: Option<Label<P::Total>>,
+        label: Label<P::Total>,
     ) -> Option<End<P::Total>>
-        ensures { result ≡ cheaper_of (ends_no_dearer (P.Tariff.meaning self.now.tariff.now)) known (end_here (is_end stop.now self.now.query.now.destination) layer.number place label) }
+        ensures { result ≡ cheaper_of (ends_no_dearer (P.Tariff.meaning self.now.tariff.now)) known (end_here (is_end stop.now self.now.query.now.destination) layer.number place (Some label)) }
     {
         if stop.station != self.query.destination || !may_alight(stop) {
             return known;
         }
-        let end = label.map(|l| End {
-            total: l.total,
+        let end = End {
+            total: label.total,
             layer: layer.number,
             place,
-        });
-        cheaper(self.tariff, known, end)
+        };
+        cheaper(self.tariff, known, Some(end))
     }
 }

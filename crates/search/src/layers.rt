@@ -1,8 +1,8 @@
 // The layers of labels, one for each number of changes.
-ghost use Rattle.std.specs.Prelude.{ℕ, ◌+◌, ◌-◌, ◌*◌, ◌<◌, ◌≤◌, length};
+ghost use Rattle.std.specs.Prelude.{◌+◌, ◌-◌, ◌*◌, ◌<◌, ◌≤◌, length};
 ghost use Rattle.search.specs.Chains.{LinkedBefore};
-ghost use Rattle.search.specs.Layers.{Fills, ShiftAsked, Asked, AllFilled};
-ghost use Rattle.search.specs.Working.{place, HasLayers};
+ghost use Rattle.search.specs.Layers.{Fills, ShiftAsked, Asked, AllFilled, BlankFrom};
+ghost use Rattle.search.specs.Working.{place, layer_at, HasLayers};
 
 use crate::asking::Usable;
 use crate::chains::{Arrivals, no_arrivals};
@@ -18,25 +18,28 @@ use tariff::Tariff;
 // call: it is known of a table that is being written, and a struct that held the table would have to promise in every
 // clause that the rest stays. Those that only read are called in the middle of that, with the table lent for the call.
 impl<P: Tariff> Inquiry<'_, P> {
-    // Writes layer after layer, until all changes are used up or a layer has no label, and answers the cheapest end.
+    // Writes layer after layer in a blank table, until all changes are used up or a layer has no label. Tells how many
+    // layers there are, and the cheapest end.
     pub fn fill_layers(
         &self,
         work: &mut [WorkRecord<P::Total>],
         usable: &Usable,
-    ) -> Option<End<P::Total>>
+    ) -> (usize, Option<End<P::Total>>)
         requires within { HasLayers (length self.now.stops.now) work.old (self.now.query.now.changes + 1) }
-        ensures filled { (layers : ℕ) × AllFilled (P.Tariff.meaning self.now.tariff.now) self.now.query.now self.now.trains.now self.now.stops.now (Asked self.now.query.now self.now.trains.now usable.now) work.new result layers }
+        requires blank { BlankFrom 0 work.old }
+        ensures filled { AllFilled (P.Tariff.meaning self.now.tariff.now) self.now.query.now self.now.trains.now self.now.stops.now (Asked self.now.query.now self.now.trains.now usable.now) work.new result.1 result.0 }
     {
+        let most = self.query.changes as usize + 1;
         let mut known = None;
         let mut arrivals = no_arrivals();
-        for number in 0..self.query.changes as usize + 1 {
+        for number in 0..most {
             let layer = Layer { number };
             if !self.fill_layer(work, layer, &arrivals, usable, &mut known) {
-                return known;
+                return (number + 1, known);
             }
             arrivals = self.arrivals(work, layer);
         }
-        known
+        (most, known)
     }
 
     // Writes the labels of a layer, and keeps the cheapest end that is known. Where it says no, there is no label.
@@ -50,6 +53,7 @@ impl<P: Tariff> Inquiry<'_, P> {
     ) -> bool
         requires within { HasLayers (length self.now.stops.now) work.old (layer.number + 1) }
         requires linked { LinkedBefore self.now.stops.now work.old layer.number arrivals.now }
+        requires blank { BlankFrom (layer_at (length self.now.stops.now) layer.number) work.old }
         ensures { Fills (P.Tariff.meaning self.now.tariff.now) self.now.query.now self.now.trains.now self.now.stops.now layer.number (Asked self.now.query.now self.now.trains.now usable.now) work.old work.new 0 (3 * length self.now.stops.now) result known.old known.new }
     {
         let mut found = false;
@@ -59,7 +63,7 @@ impl<P: Tariff> Inquiry<'_, P> {
         found
     }
 
-    // Does so for all runs of one shift.
+    // Does so for all runs of one shift. Nobody is on board a run that the query may not use.
     fn fill_shift(
         &self,
         work: &mut [WorkRecord<P::Total>],
@@ -72,16 +76,15 @@ impl<P: Tariff> Inquiry<'_, P> {
         requires within { HasLayers (length self.now.stops.now) work.old (layer.number + 1) }
         requires linked { LinkedBefore self.now.stops.now work.old layer.number arrivals.now }
         requires each { length self.now.trains.now ≤ length usable.now }
+        requires blank { BlankFrom (layer_at (length self.now.stops.now) layer.number + place (length self.now.stops.now) shift 0) work.old }
         ensures { Fills (P.Tariff.meaning self.now.tariff.now) self.now.query.now self.now.trains.now self.now.stops.now layer.number (ShiftAsked self.now.query.now self.now.trains.now shift usable.now) work.old work.new (place (length self.now.stops.now) shift 0) (place (length self.now.stops.now) shift (length self.now.stops.now)) result known.old known.new }
     {
         let mut found = false;
         for (train, usable) in usable[..self.trains.len()].iter().enumerate() {
-            let run = Run {
-                train,
-                shift,
-                usable: *usable,
-            };
-            found |= self.fill_run(work, layer, arrivals, run, known);
+            if *usable {
+                let run = Run { train, shift };
+                found |= self.fill_run(work, layer, arrivals, run, known);
+            }
         }
         found
     }

@@ -87,7 +87,6 @@ pub fn search<P: Tariff, C: Calendar>(
         trains,
         stops,
     };
-    let found = inquiry.cheapest(calendar, rides, work);
     blank_all(work);
-    found
+    inquiry.cheapest(calendar, rides, work)
 }

@@ -1,6 +1,6 @@
 // The records that a caller lends to a search to work in.
-ghost use Rattle.std.specs.Prelude.{◌≡◌};
-ghost use Rattle.search.specs.Records.{blank, label_of, record_of};
+ghost use Rattle.std.specs.Prelude.{◌≡◌, Some};
+ghost use Rattle.search.specs.Records.{blank, is_blank, label_of, record_of};
 
 use connection::label::Label;
 
@@ -26,6 +26,22 @@ impl<T: Copy> WorkRecord<T> {
         }
     }
 
+    // Whether nothing is written in it.
+    fn is_blank(self) -> bool
+        ensures { result ≡ is_blank self }
+    {
+        self.total.is_none() && self.board == 0 && self.from == 0
+    }
+
+    // Makes it blank. Most records of a table are, and it takes longer to write one than to look at it.
+    pub(crate) fn clear(&mut self)
+        ensures { self.new ≡ blank }
+    {
+        if !self.is_blank() {
+            *self = WorkRecord::blank();
+        }
+    }
+
     // The label that the record holds, by that name: `Option::from` a record would not say what is taken out of it.
     pub(crate) fn label(self) -> Option<Label<T>>
         ensures { result ≡ label_of self }
@@ -38,18 +54,15 @@ impl<T: Copy> WorkRecord<T> {
     }
 }
 
-// The record that holds the label, or that is blank where there is none.
-impl<T: Copy> From<Option<Label<T>>> for WorkRecord<T> {
-    ghost from_gives = { λ label r. r ≡ record_of label };
+// The record that holds the label.
+impl<T: Copy> From<Label<T>> for WorkRecord<T> {
+    ghost from_gives = { λ label r. r ≡ record_of (Some label) };
 
-    fn from(label: Option<Label<T>>) -> WorkRecord<T> {
-        label.map_or(
-            WorkRecord::blank(),
-            |l| WorkRecord {
-                total: Some(l.total),
-                board: l.board,
-                from: l.from,
-            },
-        )
+    fn from(label: Label<T>) -> WorkRecord<T> {
+        WorkRecord {
+            total: Some(label.total),
+            board: label.board,
+            from: label.from,
+        }
     }
 }

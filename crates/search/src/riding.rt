@@ -1,12 +1,13 @@
 // Riding a run from stop to stop, and the labels of who is on board.
-ghost use Rattle.std.specs.Prelude.{◌≡◌, ◌+◌, ◌-◌, ◌*◌, ◌<◌, ◌≤◌, length};
+ghost use Rattle.std.specs.Prelude.{◌≡◌, ◌+◌, ◌-◌, ◌*◌, ◌<◌, ◌≤◌, true, length, slice_set};
 ghost use Rattle.book.specs.Answers.{train_row};
 ghost use Rattle.connection.specs.Choosing.{mapped, cheaper as cheaper_of};
 ghost use Rattle.connection.specs.Prices.{hop as hop_of, stand as stand_of};
 ghost use Rattle.connection.specs.Settled.{extended, no_dearer};
 ghost use Rattle.search.specs.Chains.{LinkedBefore};
-ghost use Rattle.search.specs.Ends.{known_total};
-ghost use Rattle.search.specs.Layers.{Fills, RunAsked, run_begins, run_ends};
+ghost use Rattle.search.specs.Ends.{ends_no_dearer, known_total, is_end, end_here};
+ghost use Rattle.search.specs.Layers.{Fills, RunAsked, BlankFrom, run_begins, run_ends};
+ghost use Rattle.search.specs.Records.{record_of};
 ghost use Rattle.search.specs.Working.{layer_at, label_at as label_of_record, costs_no_more, hopeless, beaten, if_worth_following, HasLayers};
 
 use crate::chains::Arrivals;
@@ -23,7 +24,8 @@ use connection::label::Label;
 use tariff::Tariff;
 
 impl<P: Tariff> Inquiry<'_, P> {
-    // Writes the labels of the run in the layer, and keeps the cheapest end that is known. Where it says no, there is no label.
+    // Writes the labels of the run in the layer, and keeps the cheapest end that is known. The layer's records from the run's
+    // first on are blank, so no other is written. Where it says no, there is no label.
     pub fn fill_run(
         &self,
         work: &mut [WorkRecord<P::Total>],
@@ -35,26 +37,47 @@ impl<P: Tariff> Inquiry<'_, P> {
         requires within { HasLayers (length self.now.stops.now) work.old (layer.number + 1) }
         requires linked { LinkedBefore self.now.stops.now work.old layer.number arrivals.now }
         requires in_force { run.train < length self.now.trains.now }
-        ensures { Fills (P.Tariff.meaning self.now.tariff.now) self.now.query.now self.now.trains.now self.now.stops.now layer.number (RunAsked self.now.query.now (train_row run.train self.now.trains.now) run.shift run.usable) work.old work.new (run_begins self.now.trains.now (length self.now.stops.now) run.train run.shift) (run_ends self.now.trains.now (length self.now.stops.now) run.train run.shift) result known.old known.new }
+        requires blank { BlankFrom (layer_at (length self.now.stops.now) layer.number + run_begins self.now.trains.now (length self.now.stops.now) run.train run.shift) work.old }
+        ensures { Fills (P.Tariff.meaning self.now.tariff.now) self.now.query.now self.now.trains.now self.now.stops.now layer.number (RunAsked self.now.query.now (train_row run.train self.now.trains.now) run.shift true) work.old work.new (run_begins self.now.trains.now (length self.now.stops.now) run.train run.shift) (run_ends self.now.trains.now (length self.now.stops.now) run.train run.shift) result known.old known.new }
     {
         let train = self.trains[run.train];
         let first = train.first as usize;
         let place = self.place(run.shift, first);
-        let at = self.part_at(layer, run.shift) + first;
         let stops = train.stops(self.stops);
         let mut found = false;
         let mut aboard = None;
         for (i, stop) in stops.iter().enumerate() {
             aboard = self.if_worth_following(work, layer, place + i, *known, aboard);
-            put_label(work, at + i, aboard);
+            self.keep(work, layer, place + i, stop, aboard, known);
             found |= aboard.is_some();
-            *known = self.with_label(*known, stop, layer, place + i, aboard);
             if let Some(next) = stops.get(i + 1) {
                 let boarded = self.boarding(work, layer, arrivals, run, i);
                 aboard = self.ride_on(boarded, aboard, stop, next);
             }
         }
         found
+    }
+
+    // Writes the label at the stop, if there is one, in its record, which is blank, and keeps the cheapest end that is known.
+    fn keep(
+        &self,
+        work: &mut [WorkRecord<P::Total>],
+        layer: Layer,
+        place: usize,
+        stop: &StopRow,
+        label: Option<Label<P::Total>>,
+        known: &mut Option<End<P::Total>>,
+    )
+        requires within { HasLayers (length self.now.stops.now) work.old (layer.number + 1) }
+        requires placed { place < 3 * length self.now.stops.now }
+        requires blank { BlankFrom (layer_at (length self.now.stops.now) layer.number + place) work.old }
+        ensures work { work.new ≡ slice_set work.old (layer_at (length self.now.stops.now) layer.number + place) (record_of label) }
+        ensures known { known.new ≡ cheaper_of (ends_no_dearer (P.Tariff.meaning self.now.tariff.now)) known.old (end_here (is_end stop.now self.now.query.now.destination) layer.number place label) }
+    {
+        if let Some(label) = label {
+            put_label(work, self.layer_at(layer) + place, label);
+            *known = self.with_label(*known, stop, layer, place, label);
+        }
     }
 
     // The label at the next stop, of who has just boarded or of who was on board already, whichever is cheaper.

@@ -1,12 +1,11 @@
 // What is boarded.
 use connection::ride::Shift;
 
-// A train, by its row, that sets out on a day, as seen from the query's day; and whether the query may use it then.
+// A train, by its row, that sets out on a day, as seen from the query's day.
 #[derive(Clone, Copy)]
 pub struct Run {
     pub train: usize,
     pub shift: Shift,
-    pub usable: bool,
 }
 
 // What a traveller wants to catch at a station: what leaves there at the minute, from the stop `board` of its train.

@@ -1,5 +1,5 @@
 // Where a record stands in the work table, and the label that it holds.
-ghost use Rattle.std.specs.Prelude.{◌≡◌, ◌+◌, ◌*◌, ◌<◌, ◌≤◌, length, slice_set};
+ghost use Rattle.std.specs.Prelude.{◌≡◌, ◌+◌, ◌*◌, ◌<◌, ◌≤◌, length, Some, slice_set};
 ghost use Rattle.search.specs.Records.{record_of};
 ghost use Rattle.search.specs.Working.{number as number_of, place, layer_at, part_at, label_at};
 
@@ -56,9 +56,9 @@ pub fn label_at<T: Copy>(work: &[WorkRecord<T>], at: usize) -> Option<Label<T>>
 }
 
 // Writes the record at that place of the table whole.
-pub fn put_label<T: Copy>(work: &mut [WorkRecord<T>], at: usize, label: Option<Label<T>>)
+pub fn put_label<T: Copy>(work: &mut [WorkRecord<T>], at: usize, label: Label<T>)
     requires within { at < length work.old }
-    ensures { work.new ≡ slice_set work.old at (record_of label) }
+    ensures { work.new ≡ slice_set work.old at (record_of (Some label)) }
 {
     work[at] = WorkRecord::from(label);
 }

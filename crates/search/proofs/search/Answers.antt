@@ -2,7 +2,9 @@ use Rattle.std.proofs.Common.{◌≡◌, ◌-◌, ◌≤◌, true, List, length,
 use Rattle.std.proofs.lemmas.Result.{err_from_is_err_and}
 use Rattle.book.specs.Trains.{Train, listed, holds}
 use Rattle.search.specs.Answers.{FoundOrNone}
+use Rattle.search.specs.Layers.{BlankFrom}
 use Rattle.search.specs.Refusals.{search_refusal}
+use Rattle.search.proofs.BlankRecords.{blank_replicate}
 use Rattle.search.proofs.Guaranteed.{passed, refused_first, refused_alike, askable, guaranteed, answers_refusal, answers_found, leaves_work, blanks_work, handed}
 use Rattle.search.proofs.Prefix.{trains_fit, stops_fit}
 use Rattle.search.proofs.search.Goals as goal
@@ -68,6 +70,9 @@ invariant_of-inquiry g c =
       timely = hand.timetable.timely;
     }
 
+pub cheapest-requires-clause-blank : goal.cheapest-requires-clause-blank
+cheapest-requires-clause-blank g c = subst (BlankFrom 0) (sym c.blank_all.ensures) (blank_replicate (length c.args.work.now))
+
 pub returns : goal.returns
 returns g c =
     let a = c.args in
@@ -75,12 +80,12 @@ returns g c =
     let passes : search_refusal a.book.now a.trains.now a.stops.now a.query (length a.rides.now) (length a.work.now) ≡ None =
     sym (c.in_ok-judge.ensures ∙ refused_alike a.book.now a.trains.now a.stops.now _ _ hand a.query (length a.rides.now) (length a.work.now))
     in
-    let found = subst (λ (ts : List Train). FoundOrNone (g.P.Tariff.meaning a.tariff.now) (g.C.Calendar.runs a.calendar.now) ts a.query c.cheapest-found.result c.cheapest-found.new.rides) hand.same c.cheapest-found.ensures.found in
-    let answer = answers_found _ (λ r. FoundOrNone (g.P.Tariff.meaning a.tariff.now) (g.C.Calendar.runs a.calendar.now) (listed a.book.now.trains a.trains.now a.stops.now) a.query r c.cheapest-found.new.rides) c.cheapest-found.result passes found in
+    let found = subst (λ (ts : List Train). FoundOrNone (g.P.Tariff.meaning a.tariff.now) (g.C.Calendar.runs a.calendar.now) ts a.query c.cheapest.result c.cheapest.new.rides) hand.same c.cheapest.ensures.found in
+    let answer = answers_found _ (λ r. FoundOrNone (g.P.Tariff.meaning a.tariff.now) (g.C.Calendar.runs a.calendar.now) (listed a.book.now.trains a.trains.now a.stops.now) a.query r c.cheapest.new.rides) c.cheapest.result passes found in
     record {
       answer = answer;
-      rides = c.cheapest-found.ensures.rides;
-      work = blanks_work _ a.work.now c.cheapest-found.new.work c.blank_all.new.work passes (omega arith) c.blank_all.ensures;
-      guarantee = λ calls h. guaranteed (g.P.Tariff.meaning a.tariff.now) (g.C.Calendar.runs a.calendar.now) a.query (length a.rides.now) (length a.work.now) c.cheapest-found.new.rides a.book.now a.trains.now a.stops.now c.cheapest-found.result answer _ (c.every_history_holds.ensures.rows _ _ calls _ _ _ h).0;
+      rides = c.cheapest.ensures.rides;
+      work = blanks_work _ a.work.now c.blank_all.new.work c.cheapest.new.work passes (omega arith) c.cheapest.ensures.work;
+      guarantee = λ calls h. guaranteed (g.P.Tariff.meaning a.tariff.now) (g.C.Calendar.runs a.calendar.now) a.query (length a.rides.now) (length a.work.now) c.cheapest.new.rides a.book.now a.trains.now a.stops.now c.cheapest.result answer _ (c.every_history_holds.ensures.rows _ _ calls _ _ _ h).0;
       history = c.check.ensures.history;
     }

@@ -1,5 +1,4 @@
-use Rattle.std.proofs.Common.{◌≡◌, ℕ, ◌+◌, ◌-◌, ◌<◌, Bool, true, false, ◌&&◌, length, sym, refl, ap, ◌∙◌, subst, ap₂, arith}
-use Rattle.std.proofs.lemmas.Bool.{not-false, not-true}
+use Rattle.std.proofs.Common.{◌≡◌, ℕ, ◌+◌, ◌-◌, ◌<◌, Bool, true, false, ◌&&◌, length, sym, refl, ◌∙◌, subst, ap₂, arith}
 use Rattle.book.specs.Answers.{train_row}
 use Rattle.book.specs.Rules.{stop_at}
 use Rattle.book.specs.Trains.{trains_in}
@@ -13,7 +12,7 @@ use Rattle.search.proofs.RowsAreTrains.{fits, few_stops_of}
 use Rattle.search.proofs.WaysToBoard.{boards_nothing, boards_first, boards_later}
 use Rattle.search.proofs.inquiry.Inquiry.boarding.Given.{Over}
 use Rattle.search.proofs.inquiry.Inquiry.boarding.Goals as goal
-use Rattle.search.proofs.inquiry.Inquiry.boarding.Goals.{Start, then-not-run-via-then-not-run, then-not-run-via-else-not-run+then-not-may_board}
+use Rattle.search.proofs.inquiry.Inquiry.boarding.Goals.{Start}
 
 basis : (g : Over) (c : Start g) → Basis (g.P.Tariff.meaning c.args.self.now.tariff.now) c.args.self.now.trains.now c.args.self.now.stops.now
 basis g c =
@@ -39,19 +38,16 @@ offset_bounds-self-row g c = omega (arith, inside g (goal.at.offset_bounds-self-
 pub bounds-self-row : goal.bounds-self-row
 bounds-self-row g c = inside g (goal.at.bounds-self-row g c).Start
 
-pub returns-then-not-run : goal.returns-then-not-run
-returns-then-not-run g c =
+pub returns-then-not-may_board : goal.returns-then-not-may_board
+returns-then-not-may_board g c =
     let a = c.args in
     let s = a.self.now in
     let m = g.P.Tariff.meaning s.tariff.now in
     let stop = stop_at s.stops.now (row_of s.trains.now a.run.train a.i) in
     record {
       settles = λ runs known may filled.
-          boards_nothing m s.trains.now s.stops.now (basis g (goal.at.returns-then-not-run g c).Start) runs s.query.now known a.run.train a.run.shift a.i c.requires.in_force c.requires.on_the_train _ a.layer.number
-          (elim c.then-not-run.branch [
-            | then-not-run-via-then-not-run w ↦ ap (λ b. b && may_board stop) (sym may ∙ not-true a.run.usable w.if-not-run.true)
-            | then-not-run-via-else-not-run+then-not-may_board w ↦ and_false (may_use runs s.query.now (train_row a.run.train s.trains.now) a.run.shift) (may_board stop) (sym w.may_board.ensures ∙ w.if-not-may_board.true)
-          ]);
+          boards_nothing m s.trains.now s.stops.now (basis g (goal.at.returns-then-not-may_board g c).Start) runs s.query.now known a.run.train a.run.shift a.i c.requires.in_force c.requires.on_the_train _ a.layer.number
+          (and_false (may_use runs s.query.now (train_row a.run.train s.trains.now) a.run.shift) (may_board stop) (sym c.may_board.ensures ∙ c.if-not-may_board.true));
     }
 
 pub overflow_cast-board : goal.overflow_cast-board
@@ -69,7 +65,7 @@ returns-in_default g c =
       settles = λ runs known may filled.
           subst (λ (k : ℕ). SettlesBoarding m (trains_in s.trains.now s.stops.now) runs s.query.now (Trail s.trains.now (length s.stops.now) a.work.now k) known k a.run.train a.run.shift a.i c.start.result) (sym first)
           (boards_first m s.trains.now s.stops.now (basis g (goal.at.returns-in_default g c).Start) runs s.query.now known a.run.train a.run.shift a.i c.requires.in_force c.requires.on_the_train a.work.now c.start.result
-          (ap₂ (λ x y. x && y) (sym may ∙ not-false a.run.usable c.if-not-run.false) (sym c.may_board.ensures ∙ c.if-not-may_board.false)) c.start.ensures);
+          (ap₂ (λ x y. x && y) (sym may) (sym c.may_board.ensures ∙ c.if-not-may_board.false)) c.start.ensures);
     }
 
 pub best_change-requires-clause-linked : goal.best_change-requires-clause-linked
@@ -89,5 +85,5 @@ returns g c =
     record {
       settles = λ runs known may filled.
           boards_later m s.trains.now s.stops.now (basis g (goal.at.returns g c).Start) runs s.query.now known a.layer.number c.in-Some.before.number a.work.now a.run.train a.run.shift a.i c.leaves.result c.best_change.result c.in-Some.ensures filled c.requires.in_force c.requires.on_the_train
-          (ap₂ (λ x y. x && y) (sym may ∙ not-false a.run.usable c.if-not-run.false) (sym c.may_board.ensures ∙ c.if-not-may_board.false)) c.leaves.ensures c.best_change.ensures.best;
+          (ap₂ (λ x y. x && y) (sym may) (sym c.may_board.ensures ∙ c.if-not-may_board.false)) c.leaves.ensures c.best_change.ensures.best;
     }

@@ -8,10 +8,11 @@ use Rattle.connection.specs.Choosing.{cheaper as cheaper_of}
 use Rattle.search.specs.Ends.{ends_no_dearer, known_total, is_end, end_here}
 use Rattle.search.specs.Layers.{row_of}
 use Rattle.search.specs.Records.{record_of}
-use Rattle.search.specs.Working.{number, part_at, if_worth_following}
+use Rattle.search.specs.Working.{number, layer_at, part_at, if_worth_following}
 use Rattle.search.proofs.Basis.{Basis, timetable_of}
+use Rattle.search.proofs.BlankRecords.{blank_less}
 use Rattle.search.proofs.FillingRuns.{FilledTo, filled_none, filled_more, comes_next, fills_run}
-use Rattle.search.proofs.Layering.{layer_most, record_below, part_within}
+use Rattle.search.proofs.Layering.{record_below}
 use Rattle.search.proofs.RowsAreTrains.{fits, own_count, own_stop}
 use Rattle.search.proofs.Unchanged.{linked_same}
 use Rattle.search.proofs.WrittenRecords.{unchanged_still}
@@ -28,15 +29,6 @@ place-place-requires g c =
     let s = c.args.self.now in
     record { inside = omega (arith, fits s.trains.now s.stops.now s.ordered c.args.run.train c.requires.in_force) }
 
-pub overflow_add-at : goal.overflow_add-at
-overflow_add-at g c =
-    let a = c.args in
-    let s = a.self.now in
-    let size = length s.stops.now in
-    let most = layer_most size (a.layer.number + 1) (omega arith) s.ordered.few_stops in
-    let f = fits s.trains.now s.stops.now s.ordered a.run.train c.requires.in_force in
-    omega (arith, c.part_at.ensures, part_within size a.layer.number a.run.shift)
-
 pub loop-i-init : goal.loop-i-init
 loop-i-init g c =
     let a = c.args in
@@ -45,7 +37,7 @@ loop-i-init g c =
     let laws = g.met.P.Tariff in
     let m = g.P.Tariff.meaning t in
     let basis : Basis m s.trains.now s.stops.now = record { connex = laws.connex t; transitive = laws.transitive t; grows = laws.grows t; keeps = laws.keeps t; starts = laws.starts t; counts = laws.counts t; timetable = timetable_of s } in
-    filled_none m s.query.now s.trains.now s.stops.now a.layer.number a.run.train a.run.shift a.run.usable a.known.now basis c.requires.in_force a.work.now
+    filled_none m s.query.now s.trains.now s.stops.now a.layer.number a.run.train a.run.shift a.known.now basis c.requires.in_force a.work.now c.requires.blank
 
 pub boarding-boarded-requires-clause-linked : goal.boarding-boarded-requires-clause-linked
 boarding-boarded-requires-clause-linked g c later =
@@ -53,9 +45,18 @@ boarding-boarded-requires-clause-linked g c later =
     let s = a.self.now in
     let l = c.loop-i in
     let row = train_row a.run.train s.trains.now in
-    let next = c.put_label.ensures ∙ ap (λ x. set l.work (x + row.first + l.i) (record_of c.if_worth_following-aboard.result)) c.part_at.ensures in
-    let unchanged = unchanged_still (part_at (length s.stops.now) a.layer.number a.run.shift + row.first) l.i a.work.now l.work c.put_label.new.work c.if_worth_following-aboard.result l.invariant.unchanged next in
-    linked_same s.stops.now a.layer.number (a.layer.number - 1) a.work.now c.put_label.new.work a.arrivals.now (omega arith) (λ z h. unchanged z (omega arith)) (c.requires.linked later)
+    let at : layer_at (length s.stops.now) a.layer.number + (c.place-place.result + l.i) ≡ part_at (length s.stops.now) a.layer.number a.run.shift + row.first + l.i = omega (arith, c.place-place.ensures) in
+    let next = c.keep.ensures.work ∙ ap (λ x. set l.work x (record_of c.if_worth_following-aboard.result)) at in
+    let unchanged = unchanged_still (part_at (length s.stops.now) a.layer.number a.run.shift + row.first) l.i a.work.now l.work c.keep.new.work c.if_worth_following-aboard.result l.invariant.unchanged next in
+    linked_same s.stops.now a.layer.number (a.layer.number - 1) a.work.now c.keep.new.work a.arrivals.now (omega arith) (λ z h. unchanged z (omega arith)) (c.requires.linked later)
+
+pub keep-requires-clause-blank : goal.keep-requires-clause-blank
+keep-requires-clause-blank g c =
+    let a = c.args in
+    let size = length a.self.now.stops.now in
+    let l = c.loop-i in
+    let row = train_row a.run.train a.self.now.trains.now in
+    blank_less (part_at size a.layer.number a.run.shift + row.first + l.i) (layer_at size a.layer.number + (c.place-place.result + l.i)) l.work (omega (arith, c.place-place.ensures)) l.invariant.blank
 
 pub loop-i-preserved : goal.loop-i-preserved
 loop-i-preserved g c =
@@ -78,15 +79,16 @@ loop-i-preserved g c =
     let spot = ap (λ x. x + l.i) c.place-place.ensures ∙ add_assoc (number a.run.shift * size) row.first l.i in
     let stop_is = ap (λ x. stop_at x l.i) c.stops-stops.ensures ∙ own_stop s.trains.now s.stops.now s.ordered n l.i li in
     let ends = λ (stop : StopRow) (x : ℕ). cheaper_of (ends_no_dearer m) l.known (end_here (is_end stop s.query.now.destination) layer x c.if_worth_following-aboard.result) in
-    let known = c.with_label.ensures ∙ ap₂ ends stop_is spot in
+    let known = c.keep.ensures.known ∙ ap₂ ends stop_is spot in
     let kept = c.if_worth_following-aboard.ensures ∙ ap (λ x. if_worth_following m size l.work x (known_total l.known) layer l.aboard) spot in
-    let next = c.put_label.ensures ∙ ap (λ x. set l.work (x + row.first + l.i) (record_of c.if_worth_following-aboard.result)) c.part_at.ensures in
-    filled_more m s.query.now s.trains.now s.stops.now layer n a.run.shift a.run.usable a.known.now basis c.requires.in_force a.work.now l.work l.i l.found l.aboard c.if_worth_following-aboard.result l.known c.with_label.result l.invariant li room kept c.put_label.new.work next known (l.found || c.is_some-found.result) c.match-get.aboard (ap (λ b. l.found || b) c.is_some-found.ensures)
+    let at : layer_at (length s.stops.now) a.layer.number + (c.place-place.result + l.i) ≡ part_at (length s.stops.now) a.layer.number a.run.shift + row.first + l.i = omega (arith, c.place-place.ensures) in
+    let next = c.keep.ensures.work ∙ ap (λ x. set l.work x (record_of c.if_worth_following-aboard.result)) at in
+    filled_more m s.query.now s.trains.now s.stops.now layer n a.run.shift a.known.now basis c.requires.in_force a.work.now l.work l.i l.found l.aboard c.if_worth_following-aboard.result l.known c.keep.new.known l.invariant li room kept c.keep.new.work next known (l.found || c.is_some-found.result) c.match-get.aboard (ap (λ b. l.found || b) c.is_some-found.ensures)
     (elim c.match-get.branch [
       | in-Some w ↦
           let on : l.i + 1 < length c.stops-stops.result.now = ltb-true _ _ (sym w.in-Some.ensures.lookup.0) in
           let there_is = get_or_read c.stops-stops.result.now (l.i + 1) _ on w.in-Some.ensures.lookup.1 _ ∙ ap (λ x. stop_at x (l.i + 1)) c.stops-stops.ensures ∙ own_stop s.trains.now s.stops.now s.ordered n (l.i + 1) (omega arith) in
-          comes_next m s.query.now s.trains.now s.stops.now layer n a.run.shift a.run.usable a.known.now basis c.requires.in_force a.work.now l.work l.i l.found l.aboard c.if_worth_following-aboard.result l.known c.with_label.result l.invariant li room kept c.put_label.new.work next known _ w.in-Some.next.now w.boarding-boarded.result c.match-get.aboard stop_is there_is (omega arith) w.boarding-boarded.ensures.settles (w.aboard-is ∙ w.ride_on-aboard.ensures)
+          comes_next m s.query.now s.trains.now s.stops.now layer n a.run.shift a.known.now basis c.requires.in_force a.work.now l.work l.i l.found l.aboard c.if_worth_following-aboard.result l.known c.keep.new.known l.invariant li room kept c.keep.new.work next known _ w.in-Some.next.now w.boarding-boarded.result c.match-get.aboard stop_is there_is (omega arith) w.boarding-boarded.ensures.settles (w.aboard-is ∙ w.ride_on-aboard.ensures)
       | in_default w ↦ λ runs may filled more. let none : length c.stops-stops.result.now ≤ l.i + 1 = ltb-false _ _ (sym w.in_default.ensures.lookup.0) in absurd (omega arith)
     ])
 
@@ -102,5 +104,5 @@ returns g c =
     let l = c.loop-i in
     let long : length c.stops-stops.result.now ≡ (train_row n s.trains.now).count = ap length c.stops-stops.ensures ∙ own_count s.trains.now s.stops.now s.ordered n c.requires.in_force in
     let end : l.i ≡ (train_row n s.trains.now).count = omega arith in
-    let state = subst (λ (i : ℕ). FilledTo m s.query.now s.trains.now s.stops.now a.layer.number n a.run.shift a.run.usable a.known.now a.work.now l.work i l.found l.aboard l.known) end l.invariant in
-    fills_run m s.query.now s.trains.now s.stops.now a.layer.number n a.run.shift a.run.usable a.known.now basis c.requires.in_force a.work.now l.work l.found l.aboard l.known state
+    let state = subst (λ (i : ℕ). FilledTo m s.query.now s.trains.now s.stops.now a.layer.number n a.run.shift a.known.now a.work.now l.work i l.found l.aboard l.known) end l.invariant in
+    fills_run m s.query.now s.trains.now s.stops.now a.layer.number n a.run.shift a.known.now basis c.requires.in_force a.work.now l.work l.found l.aboard l.known state

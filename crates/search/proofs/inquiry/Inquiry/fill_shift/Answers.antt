@@ -1,12 +1,16 @@
 use Rattle.std.proofs.Common.{ℕ, ◌+◌, ◌-◌, false, length, sym, ap, ◌∙◌, subst, add-one, arith}
+use Rattle.std.proofs.Math.Bool.{or-false}
 use Rattle.std.proofs.lemmas.List.{length-take-le, get_or-take}
 use Rattle.book.specs.Answers.{train_row}
-use Rattle.search.specs.Layers.{Fills, ShiftAsked}
-use Rattle.search.specs.Working.{place}
+use Rattle.search.specs.Layers.{Fills, ShiftAsked, BlankFrom}
+use Rattle.search.specs.Working.{place, layer_at}
+use Rattle.search.proofs.Basis.{Basis, timetable_of}
 use Rattle.search.proofs.FillingLayers.{fills_none, fills_then}
+use Rattle.search.proofs.IdleRuns.{fills_idle}
 use Rattle.search.proofs.RowsAreTrains.{first_first, next_first, last_ends, none_none}
 use Rattle.search.proofs.Unchanged.{linked_same}
 use Rattle.search.proofs.inquiry.Inquiry.fill_shift.Goals as goal
+use Rattle.search.proofs.inquiry.Inquiry.fill_shift.Goals.{then-usable, else-usable}
 
 pub loop-train-init : goal.loop-train-init
 loop-train-init g c =
@@ -20,6 +24,16 @@ fill_run-found-requires-clause-linked g c later =
     let so_far = c.loop-train.invariant.1 in
     linked_same s.stops.now a.layer.number (a.layer.number - 1) a.work.now c.loop-train.work a.arrivals.now (omega arith) (λ z h. so_far.unchanged z (omega arith)) (c.requires.linked later)
 
+pub fill_run-found-requires-clause-blank : goal.fill_run-found-requires-clause-blank
+fill_run-found-requires-clause-blank g c =
+    let a = c.args in
+    let s = a.self.now in
+    let size = length s.stops.now in
+    let l = c.loop-train in
+    let long = length-take-le (length s.trains.now) a.usable.now c.requires.each in
+    let here = l.invariant.2 (omega arith) in
+    subst (λ (r : ℕ). BlankFrom (layer_at size a.layer.number + place size a.shift r) l.work) (sym here) (l.invariant.1.blank c.requires.blank)
+
 pub loop-train-preserved : goal.loop-train-preserved
 loop-train-preserved g c =
     let a = c.args in
@@ -27,12 +41,26 @@ loop-train-preserved g c =
     let l = c.loop-train in
     let size = length s.stops.now in
     let count = length s.trains.now in
+    let t = s.tariff.now in
+    let laws = g.met.P.Tariff in
+    let m = g.P.Tariff.meaning t in
     let train = train_row l.train s.trains.now in
     let long = length-take-le count a.usable.now c.requires.each in
+    let asked = get_or-take count a.usable.now l.train false (omega arith) in
     let here = l.invariant.2 (omega arith) in
     let before = subst (λ (r : ℕ). Fills (g.P.Tariff.meaning s.tariff.now) s.query.now s.trains.now s.stops.now a.layer.number (ShiftAsked s.query.now s.trains.now a.shift a.usable.now) a.work.now l.work (place size a.shift 0) (place size a.shift r) l.found a.known.now l.known) (sym here) l.invariant.1 in (
       train.first + train.count,
-      fills_then s.ordered before c.fill_run-found.ensures (λ runs may. get_or-take count a.usable.now l.train false (omega arith) ∙ may l.train (omega arith)) (omega arith),
+      elim c.if-usable.branch [
+        | then-usable w ↦
+            rw (w.work-is, w.known-is, w.found-is)
+            (fills_then s.ordered before w.fill_run-found.ensures (λ runs may. sym w.if-usable.true ∙ asked ∙ may l.train (omega arith)) (omega arith))
+        | else-usable w ↦
+            let blank = subst (λ (r : ℕ). BlankFrom (layer_at size a.layer.number + place size a.shift r) l.work) (sym here) (l.invariant.1.blank c.requires.blank) in
+            let basis : Basis m s.trains.now s.stops.now = record { connex = laws.connex t; transitive = laws.transitive t; grows = laws.grows t; keeps = laws.keeps t; starts = laws.starts t; counts = laws.counts t; timetable = timetable_of s } in
+            let idle = fills_idle m s.query.now s.trains.now s.stops.now basis a.layer.number l.train a.shift (omega arith) l.work l.known blank in
+            rw (w.work-is, w.known-is, w.found-is ∙ sym (or-false l.found))
+            (fills_then s.ordered before idle (λ runs may. sym w.if-usable.false ∙ asked ∙ may l.train (omega arith)) (omega arith))
+      ],
       λ h. ap (λ n. (train_row n s.trains.now).first) (add-one l.train) ∙ next_first s.trains.now s.stops.now s.ordered l.train (omega arith),
       λ h. last_ends s.trains.now s.stops.now s.ordered l.train (omega arith),
     )
