@@ -1,5 +1,6 @@
 -- The best change of a chain is the best change at its station.
-use Rattle.std.proofs.Common.{◌≡◌, ℕ, suc, ◌+◌, ◌<◌, ◌≤◌, Bool, true, false, ◌&&◌, ◌||◌, T, List, length, get_or, Some, None, Option, sym, refl, ap, ◌∙◌, subst, arith}
+use Rattle.std.proofs.Common.{◌≡◌, ℕ, suc, ◌+◌, ◌*◌, ◌<◌, ◌≤◌, Bool, true, false, ◌&&◌, ◌||◌, T, List, length, Some, None, Option, sym, refl, ap, ◌∙◌, subst, inl, inr, arith}
+use Rattle.std.proofs.lemmas.Bool.{cases_lt}
 use Rattle.std.proofs.lemmas.Option.{same_Some}
 use Rattle.tariff.specs.Laws.{Connex, Transitive}
 use Rattle.tariff.specs.Meaning.{Meaning}
@@ -9,19 +10,28 @@ use Rattle.connection.specs.Choosing.{mapped, only_when, cheaper}
 use Rattle.connection.specs.Clock.{midnight}
 use Rattle.connection.specs.Rides.{can_catch, may_alight, arrival}
 use Rattle.connection.specs.Settled.{no_dearer}
-use Rattle.connection.specs.Ways.{Among, Best}
+use Rattle.connection.specs.Ways.{Either, Best}
 use Rattle.connection.specs.declared.label.Label.{Label}
 use Rattle.connection.specs.declared.ride.Shift.{Shift}
-use Rattle.connection.proofs.Best.{refl_from, best_same, best_more, best_skip}
+use Rattle.connection.proofs.Best.{refl_from, best_same, best_cheaper}
 use Rattle.connection.proofs.Tests.{both_left, both_right, both_from}
-use Rattle.search.specs.Chains.{ArrivesAt, Link, Chained, or_end}
-use Rattle.search.specs.Changing.{changed, ChangesAt, ChangesOn}
+use Rattle.search.specs.Chains.{ArrivesAt, Link, behind}
+use Rattle.search.specs.Changing.{changed, ChangesAt, Changes}
 use Rattle.search.specs.Working.{place}
 use Rattle.search.proofs.Chosen.{chosen_connex, chosen_trans}
+use Rattle.search.proofs.RowsAreTrains.{place_below, same_place}
 
-module _ {A : Type 0} (m : Meaning A) (connex : Connex m) (transitive : Transitive m) (stops : List StopRow) (label : Shift → ℕ → Option (Label A)) (station until board : ℕ) (s : Shift) where
-  abbrev At : ℕ → Label A → Type 0
-  At = ChangesAt m stops label station until board s
+-- what the labels of the places from b on make
+abbrev pub ChangesFrom : {A : Type 0} (m : Meaning A) (stops : List StopRow) (label : Shift → ℕ → Option (Label A)) (station until board b : ℕ) → Label A → Type 0
+ChangesFrom m stops label station until board b l =
+    (s : Shift) × (row : ℕ) × (b ≤ place (length stops) s row) × ChangesAt m stops label station until board s row l
+
+module _ {A : Type 0} (m : Meaning A) (connex : Connex m) (transitive : Transitive m) (stops : List StopRow) (label : Shift → ℕ → Option (Label A)) (station until board : ℕ) where
+  abbrev At : Shift → ℕ → Label A → Type 0
+  At = ChangesAt m stops label station until board
+
+  abbrev From : ℕ → Label A → Type 0
+  From = ChangesFrom m stops label station until board
 
   label_connex : (a b : Label A) → T (no_dearer m a b || no_dearer m b a)
   label_connex = chosen_connex m connex transitive (λ (l : Label A). l.total)
@@ -29,39 +39,65 @@ module _ {A : Type 0} (m : Meaning A) (connex : Connex m) (transitive : Transiti
   label_trans : (a b c : Label A) → T (no_dearer m a b) → T (no_dearer m b c) → T (no_dearer m a c)
   label_trans = chosen_trans m connex transitive (λ (l : Label A). l.total)
 
-  -- ---- one row
-  module _ (row : ℕ) (inside : row < length stops) (here : (stop_at stops row).station ≡ station) where
-    abbrev test : Bool
+  held_none : {B : Type 0} (s : Shift) (row : ℕ) (l : Label A) → At s row l → label s row ≡ None → B
+  held_none s row l c none = let z : ◌≡◌ {A = ℕ} 0 1 = cc (sym c.held ∙ none) in absurd (omega arith)
+
+  -- ---- one place
+  module _ (s : Shift) (row : ℕ) (inside : row < length stops) (here : (stop_at stops row).station ≡ station) where
+    abbrev pub test : Bool
     test = may_alight (stop_at stops row) && can_catch (arrival (stop_at stops row) + midnight s) until
 
-    abbrev made : Label A → Label A
+    abbrev pub made : Label A → Label A
     made = changed m (stop_at stops row) s until board (place (length stops) s row)
 
-    one_change : (b : Bool) → test ≡ b → (o : Option (Label A)) → label s row ≡ o → Best (no_dearer m) (At row) (only_when b (mapped made o))
+    one_change : (b : Bool) → test ≡ b → (o : Option (Label A)) → label s row ≡ o → Best (no_dearer m) (At s row) (only_when b (mapped made o))
     one_change false e o f =
         λ l x. let z : T (test) = both_from (may_alight (stop_at stops row)) _ x.off x.in_time in subst T e z
-    one_change true e None f = λ l x. let z : ◌≡◌ {A = ℕ} 0 1 = cc (sym x.held ∙ f) in absurd (omega arith)
+    one_change true e None f = λ l x. held_none s row l x f
     one_change true e (Some l) f =
         let t : T test = subst T (sym e) tt in (
           record { inside = inside; here = here; off = both_left (may_alight (stop_at stops row)) _ t; in_time = both_right (may_alight (stop_at stops row)) _ t; before = l; held = f; is = refl },
           λ u x. subst (λ (w : Label A). T (no_dearer m (made l) w)) (ap made (same_Some l x.before (sym f ∙ x.held)) ∙ sym x.is) (refl_from (no_dearer m) label_connex (made l)),
         )
 
-  -- ---- the rows of the chain
-  nothing_between : (a : ℕ) (b : Option ℕ) → Link stops (label s) station a b → (j : ℕ) (l : Label A) → a ≤ j → j < or_end stops b → At j l → ⊥
-  nothing_between a b link j l h k x = let z : ◌≡◌ {A = ℕ} 0 1 = cc (sym x.held ∙ link.passed_over j h k x.here) in omega arith
+    -- ---- and the one ahead of it in the chain
+    module _ (x : ℕ) (is : x ≡ place (length stops) s row) (next : Option ℕ) (link : Link stops label station x next) where
+      to : (l : Label A) → Either (From (suc x)) (At s row) l → From (behind next) l
+      to l (inl c) = (c.0, c.1, omega (arith, c.2, link.ahead), c.3)
+      to l (inr c) = (s, row, omega (arith, is, link.ahead), c)
 
-  -- the chain goes on from a row of the station
-  pub chain_next : (heads nexts : List (Option ℕ)) (row : ℕ) → Chained stops (label s) heads nexts → ArrivesAt stops (label s) station row → Link stops (label s) station (suc row) (get_or nexts row None)
-  chain_next heads nexts row c a = subst (λ (x : ℕ). Link stops (label s) x (suc row) (get_or nexts row None)) a.here (c.next row a.inside a.labelled)
+      from : (l : Label A) → From (behind next) l → Either (From (suc x)) (At s row) l
+      from l c =
+          let s' = c.0 in
+          let row' = c.1 in
+          elim (cases_lt (place (length stops) s' row') x) [
+            | inl g ↦ held_none s' row' l c.3 (link.passed_over s' row' c.3.inside c.2 g c.3.here)
+            | inr g ↦
+                elim (cases_lt x (place (length stops) s' row')) [
+                  | inl h ↦ inl (s', row', omega (arith, h), c.3)
+                  | inr h ↦
+                      let e = same_place s' s (length stops) row' row c.3.inside inside (omega (arith, g, h, is)) in
+                      inr (subst (λ (r : ℕ). At s r l) e.1 (subst (λ (t : Shift). At t row' l) e.0 c.3))
+                ]
+          ]
 
-  pub changes_next : (row : ℕ) (next : Option ℕ) (best o p best' : Option (Label A)) → ArrivesAt stops (label s) station row → Link stops (label s) station (suc row) next → o ≡ label s row → p ≡ only_when (may_alight (stop_at stops row) && can_catch (arrival (stop_at stops row) + midnight s) until) (mapped (changed m (stop_at stops row) s until board (place (length stops) s row)) o) → best' ≡ cheaper (no_dearer m) best p → Best (no_dearer m) (Among row At) best → Best (no_dearer m) (Among (or_end stops next) At) best'
-  changes_next row next best o p best' a link eo ep eb b =
-      let one = one_change row a.inside a.here (test row a.inside a.here) refl o (sym eo) in
-      subst (Best (no_dearer m) (Among (or_end stops next) At)) (sym (eb ∙ ap (cheaper (no_dearer m) best) ep))
-      (best_skip (no_dearer m) label_connex label_trans At (suc row) (or_end stops next) _ link.onward (nothing_between (suc row) next link)
-      (best_more (no_dearer m) label_connex label_trans row At best _ b one))
+      pub changes_next : (best o p best' : Option (Label A)) → o ≡ label s row → p ≡ only_when test (mapped made o) → best' ≡ cheaper (no_dearer m) best p → Best (no_dearer m) (From (suc x)) best → Best (no_dearer m) (From (behind next)) best'
+      changes_next best o p best' eo ep eb b =
+          let one = one_change test refl o (sym eo) in
+          subst (Best (no_dearer m) (From (behind next))) (sym (eb ∙ ap (cheaper (no_dearer m) best) ep))
+          (best_same (no_dearer m) (Either (From (suc x)) (At s row)) (From (behind next)) _ to from (best_cheaper (no_dearer m) label_connex label_trans (From (suc x)) (At s row) best _ b one))
 
-  pub changes_all : (best : Option (Label A)) → Best (no_dearer m) (Among (length stops) At) best → Best (no_dearer m) (ChangesOn m stops label station until board s) best
+  -- ---- all places: from the end of the layer to its start
+  pub changes_start : (next : Option ℕ) → Link stops label station (3 * length stops) next → Best (no_dearer m) (From (behind next)) None
+  changes_start next link =
+      λ l c. held_none c.0 c.1 l c.3 (link.passed_over c.0 c.1 c.3.inside c.2 (place_below c.0 (length stops) c.1 c.3.inside) c.3.here)
+
+  pub changes_all : (best : Option (Label A)) → Best (no_dearer m) (From 0) best → Best (no_dearer m) (Changes m stops label station until board) best
   changes_all best b =
-      best_same (no_dearer m) (Among (length stops) At) (ChangesOn m stops label station until board s) best (λ l x. (x.0, x.2)) (λ l x. (x.0, x.1.inside, x.1)) b
+      best_same (no_dearer m) (From 0) (Changes m stops label station until board) best (λ l c. (c.0, (c.1, c.3))) (λ l c. (c.0, c.1.0, omega arith, c.1.1)) b
+
+-- the station of a place is that of the row that it stands for
+pub arrives_here : {A : Type 0} (stops : List StopRow) (label : Shift → ℕ → Option (Label A)) (station x : ℕ) (s : Shift) (row : ℕ) → ArrivesAt stops label station x → row < length stops → x ≡ place (length stops) s row → (stop_at stops row).station ≡ station
+arrives_here stops label station x s row a inside is =
+    let e = same_place s a.shift (length stops) row a.row inside a.inside (sym is ∙ a.is) in
+    ap (λ r. (stop_at stops r).station) e.1 ∙ a.here

@@ -1,148 +1,156 @@
--- Chains that are built from the last row back.
-use Rattle.std.proofs.Common.{◌≡◌, ℕ, suc, ◌<◌, ◌≤◌, true, false, ◌≢◌, ◌⊎◌, List, ◌∷◌, [], ◌++◌, length, get_or, set, replicate, is_some, Some, None, Option, sym, refl, ap, ◌∙◌, subst, ap₂, inl, inr, arith, get_or-set_other, get_or-set_same}
-use Rattle.std.specs.List.{push}
-use Rattle.std.proofs.Math.Seq.{get_or-append_seam}
-use Rattle.std.proofs.lemmas.List.{append_assoc, length-append, length_push, length-set, length-replicate, get_or-replicate}
+-- Chains that grow place by place.
+use Rattle.std.proofs.Common.{◌≡◌, ℕ, ◌+◌, ◌<◌, ◌≤◌, true, false, ◌≢◌, ◌⊎◌, List, length, get_or, replicate, is_some, Some, None, Option, sym, refl, ap, ◌∙◌, subst, inl, inr, arith, get_or-set_other, get_or-set_same}
+use Rattle.std.proofs.lemmas.List.{length-set, length-replicate, get_or-replicate}
 use Rattle.std.proofs.lemmas.Bool.{cases_lt}
 use Rattle.book.specs.Rules.{stop_at}
 use Rattle.book.specs.declared.rows.StopRow.{StopRow}
 use Rattle.connection.specs.declared.label.Label.{Label}
-use Rattle.search.specs.Chains.{Link, Chained, or_end}
+use Rattle.connection.specs.declared.ride.Shift.{Shift}
+use Rattle.search.specs.Chains.{with_arrival, arrived, ArrivesAt, Link, Chained}
+use Rattle.search.specs.Working.{place}
+use Rattle.search.specs.declared.chains.Arrivals.{Arrivals}
+use Rattle.search.proofs.RowsAreTrains.{place_below, same_place}
 
 pub not_some : {A : Type 0} (o : Option A) → is_some o ≡ false → o ≡ None
 not_some None e = refl
 not_some (Some a) e = let z : ◌≡◌ {A = ℕ} 0 1 = cc in absurd (omega arith)
 
-module _ {A : Type 0} (stops : List StopRow) (label : ℕ → Option (Label A)) where
-  -- the chains of the rows from `row` on
-  pub record ChainedFrom (row : ℕ) (heads nexts : List (Option ℕ)) : Type 0 where
-    pub long_heads : length heads ≡ 1024
-    pub long_nexts : length nexts ≡ 4096
-    pub first : (station : ℕ) → station ≤ 1023 → Link stops label station row (get_or heads station None)
-    pub next : (j : ℕ) → row ≤ j → j < length stops → is_some (label j) ≡ true → Link stops label (stop_at stops j).station (suc j) (get_or nexts j None)
+no_label : {A B : Type 0} (o : Option A) → is_some o ≡ true → o ≡ None → B
+no_label None s e = let z : ◌≡◌ {A = ℕ} 0 1 = cc in absurd (omega arith)
+no_label (Some a) s e = let z : ◌≡◌ {A = ℕ} 0 1 = cc in absurd (omega arith)
 
-  pub chained_none : ChainedFrom (length stops) (replicate 1024 None) (replicate 4096 None)
-  chained_none =
+module _ {A : Type 0} (stops : List StopRow) where
+  -- ---- no place is taken yet
+  pub chained_none : (label : Shift → ℕ → Option (Label A)) (nexts : List (Option ℕ)) → length nexts ≡ 12288 → Chained stops label 0 (record { heads = replicate 1024 None; nexts = nexts })
+  chained_none label nexts long =
       record {
         long_heads = length-replicate {A = Option ℕ} 1024 None;
-        long_nexts = length-replicate {A = Option ℕ} 4096 None;
+        long_nexts = long;
         first = λ station h.
-            subst (Link stops label station (length stops)) (sym (get_or-replicate 1024 station None None (omega arith)))
-            (record { onward = omega arith; passed_over = λ j a b s. absurd (omega arith); arrives = tt });
-        next = λ j a l s. absurd (omega arith);
+            subst (Link stops label station 0) (sym (get_or-replicate 1024 station None None (omega arith)))
+            (record { ahead = omega arith; passed_over = λ s row i a b e. absurd (omega arith); arrives = tt });
+        next = λ station x h a. absurd (omega arith);
       }
 
-  -- a row ahead of the chain's first adds nothing if it has no label or another station
-  link_back : (station row : ℕ) (b : Option ℕ) → ((stop_at stops row).station ≡ station → label row ≡ None) → Link stops label station (suc row) b → Link stops label station row b
-  link_back station row b none l =
-      record { onward = omega (arith, l.onward); passed_over = over; arrives = l.arrives }
-    where
-      over_at : (j : ℕ) → row ≤ j → j < or_end stops b → (stop_at stops j).station ≡ station → ((row < j) ⊎ (j ≤ row)) → label j ≡ None
-      over_at j a h s (inl g) = l.passed_over j g h s
-      over_at j a h s (inr g) =
-          let e : row ≡ j = omega arith in
-          subst (λ (i : ℕ). (stop_at stops i).station ≡ station → label i ≡ None) e none s
+  -- ---- chains speak only of the labels ahead
+  module _ (label label' : Shift → ℕ → Option (Label A)) (a : ℕ) (same : (s : Shift) (row : ℕ) → row < length stops → place (length stops) s row < a → label' s row ≡ label s row) where
+    arrives_same : (station x : ℕ) → x < a → ArrivesAt stops label station x → ArrivesAt stops label' station x
+    arrives_same station x h w =
+        record { shift = w.shift; row = w.row; inside = w.inside; is = w.is; here = w.here; labelled = ap is_some (same w.shift w.row w.inside (omega (arith, w.is))) ∙ w.labelled }
 
-      over : (j : ℕ) → row ≤ j → j < or_end stops b → (stop_at stops j).station ≡ station → label j ≡ None
-      over j a h s = over_at j a h s (cases_lt row j)
+    arrives_back : (station x : ℕ) → x < a → ArrivesAt stops label' station x → ArrivesAt stops label station x
+    arrives_back station x h w =
+        record { shift = w.shift; row = w.row; inside = w.inside; is = w.is; here = w.here; labelled = ap is_some (sym (same w.shift w.row w.inside (omega (arith, w.is)))) ∙ w.labelled }
 
-  next_back : (row : ℕ) (nexts : List (Option ℕ)) → is_some (label row) ≡ false → ((j : ℕ) → suc row ≤ j → j < length stops → is_some (label j) ≡ true → Link stops label (stop_at stops j).station (suc j) (get_or nexts j None)) → (j : ℕ) → row ≤ j → j < length stops → is_some (label j) ≡ true → Link stops label (stop_at stops j).station (suc j) (get_or nexts j None)
-  next_back row nexts none next j a l s = go (cases_lt row j)
-    where
-      go : ((row < j) ⊎ (j ≤ row)) → Link stops label (stop_at stops j).station (suc j) (get_or nexts j None)
-      go (inl g) = next j g l s
-      go (inr g) =
-          let e : j ≡ row = omega arith in
-          let t : true ≡ false = sym s ∙ ap (λ i. is_some (label i)) e ∙ none in
-          let z : ◌≡◌ {A = ℕ} 0 1 = cc in absurd (omega arith)
+    link_same : (station b : ℕ) (o : Option ℕ) → b ≤ a → Link stops label station b o → Link stops label' station b o
+    link_same station b None h l =
+        record { ahead = l.ahead; passed_over = λ s row i lo hi e. same s row i (omega arith) ∙ l.passed_over s row i lo hi e; arrives = tt }
+    link_same station b (Some x) h l =
+        record {
+          ahead = l.ahead;
+          passed_over = λ s row i lo hi e. same s row i (omega arith) ∙ l.passed_over s row i lo hi e;
+          arrives = arrives_same station x (omega (arith, l.ahead)) l.arrives;
+        }
 
-  pub chained_skip : (row : ℕ) (heads nexts : List (Option ℕ)) → is_some (label row) ≡ false → ChainedFrom (suc row) heads nexts → ChainedFrom row heads nexts
-  chained_skip row heads nexts none c =
-      record {
-        long_heads = c.long_heads;
-        long_nexts = c.long_nexts;
-        first = λ station h. link_back station row (get_or heads station None) (λ s. not_some (label row) none) (c.first station h);
-        next = next_back row nexts none c.next;
-      }
+    pub chained_same : (c : Arrivals) → Chained stops label a c → Chained stops label' a c
+    chained_same c h =
+        record {
+          long_heads = h.long_heads;
+          long_nexts = h.long_nexts;
+          first = λ station known. link_same station a (get_or c.heads station None) (omega arith) (h.first station known);
+          next = λ station x l w. link_same station x (get_or c.nexts x None) (omega arith) (h.next station x l (arrives_back station x l w));
+        }
 
-  pub chained_more : (row : ℕ) (heads nexts : List (Option ℕ)) → row < length stops → length stops ≤ 4096 → (stop_at stops row).station ≤ 1023 → is_some (label row) ≡ true → ChainedFrom (suc row) heads nexts → ChainedFrom row (set heads (stop_at stops row).station (Some row)) (set nexts row (get_or heads (stop_at stops row).station None))
-  chained_more row heads nexts l few st some c =
-      record {
-        long_heads = length-set heads at (Some row) ∙ c.long_heads;
-        long_nexts = length-set nexts row (get_or heads at None) ∙ c.long_nexts;
-        first = λ station h. first_at station h (cases_lt station at) (cases_lt at station);
-        next = λ j a k s. next_at j a k s (cases_lt row j);
-      }
-    where
-      at : ℕ
-      at = (stop_at stops row).station
+  module _ (label : Shift → ℕ → Option (Label A)) where
+    link_on : (station a b : ℕ) (o : Option ℕ) → a ≤ b → ((s : Shift) (row : ℕ) → row < length stops → a ≤ place (length stops) s row → place (length stops) s row < b → (stop_at stops row).station ≡ station → label s row ≡ None) → Link stops label station a o → Link stops label station b o
+    link_on station a b o h none l =
+        record {
+          ahead = omega (arith, l.ahead);
+          passed_over = λ s row i lo hi e. elim (cases_lt (place (length stops) s row) a) [ inl g ↦ l.passed_over s row i lo g e | inr g ↦ none s row i g hi e ];
+          arrives = l.arrives;
+        }
 
-      here : Link stops label at row (Some row)
-      here = record { onward = omega arith; passed_over = λ j a b s. absurd (omega arith); arrives = record { inside = l; here = refl; labelled = some } }
+    -- ---- places without a label are passed over
+    pub chained_over : (a b : ℕ) (c : Arrivals) → a ≤ b → ((s : Shift) (row : ℕ) → row < length stops → a ≤ place (length stops) s row → place (length stops) s row < b → label s row ≡ None) → Chained stops label a c → Chained stops label b c
+    chained_over a b c h none w =
+        record {
+          long_heads = w.long_heads;
+          long_nexts = w.long_nexts;
+          first = λ station known. link_on station a b (get_or c.heads station None) h (λ s row i lo hi e. none s row i lo hi) (w.first station known);
+          next = λ station x l r. w.next station x (before station x l r (cases_lt x a)) r;
+        }
+      where
+        before : (station x : ℕ) → x < b → ArrivesAt stops label station x → (x < a) ⊎ (a ≤ x) → x < a
+        before station x l r (inl g) = g
+        before station x l r (inr g) = no_label (label r.shift r.row) r.labelled (none r.shift r.row r.inside (omega (arith, r.is)) (omega (arith, r.is)))
 
-      other : (station : ℕ) → station ≤ 1023 → station ≢ at → Link stops label station row (get_or (set heads at (Some row)) station None)
-      other station h ne =
-          subst (Link stops label station row) (sym (get_or-set_other heads at station (Some row) None ne))
-          (link_back station row (get_or heads station None) (λ s. absurd (ne (sym s))) (c.first station h))
+    -- ---- one more place
+    module _ (s : Shift) (row : ℕ) (inside : row < length stops) (few : length stops ≤ 4096) (known : (stop_at stops row).station ≤ 1023) (c : Arrivals) (so_far : Chained stops label (place (length stops) s row) c) where
+      abbrev at : ℕ
+      at = place (length stops) s row
 
-      first_at : (station : ℕ) → station ≤ 1023 → ((station < at) ⊎ (at ≤ station)) → ((at < station) ⊎ (station ≤ at)) → Link stops label station row (get_or (set heads at (Some row)) station None)
-      first_at station h (inr g) (inr f) =
-          let e : at ≡ station = omega arith in
-          let w : at < length heads = omega (arith, c.long_heads) in
-          subst (λ (x : ℕ). Link stops label x row (get_or (set heads at (Some row)) x None)) e
-          (subst (Link stops label at row) (sym (get_or-set_same heads at (Some row) None w)) here)
-      first_at station h (inl g) f = let ne : station ≢ at = omega arith in other station h ne
-      first_at station h (inr g) (inl f) = let ne : station ≢ at = omega arith in other station h ne
+      abbrev station : ℕ
+      station = (stop_at stops row).station
 
-      next_at : (j : ℕ) → row ≤ j → j < length stops → is_some (label j) ≡ true → ((row < j) ⊎ (j ≤ row)) → Link stops label (stop_at stops j).station (suc j) (get_or (set nexts row (get_or heads at None)) j None)
-      next_at j a k s (inl g) =
-          let ne : j ≢ row = omega arith in
-          subst (Link stops label (stop_at stops j).station (suc j)) (sym (get_or-set_other nexts row j (get_or heads at None) None ne)) (c.next j g k s)
-      next_at j a k s (inr g) =
-          let e : row ≡ j = omega arith in
-          let w : row < length nexts = omega (arith, c.long_nexts) in
-          subst (λ (x : ℕ). Link stops label (stop_at stops x).station (suc x) (get_or (set nexts row (get_or heads at None)) x None)) e
-          (subst (Link stops label at (suc row)) (sym (get_or-set_same nexts row (get_or heads at None) None w)) (c.first at st))
+      -- the place itself is that row of that shift
+      only : (s' : Shift) (row' : ℕ) → row' < length stops → at ≤ place (length stops) s' row' → place (length stops) s' row' < at + 1 → (s ≡ s') × (row ≡ row')
+      only s' row' i lo hi = same_place s s' (length stops) row row' inside i (omega arith)
 
-  pub chained_all : (heads nexts : List (Option ℕ)) → ChainedFrom 0 heads nexts → Chained stops label heads nexts
-  chained_all heads nexts c = record { first = c.first; next = λ j l s. c.next j (omega arith) l s }
+      add_none : label s row ≡ None → Chained stops label (at + 1) c
+      add_none none = chained_over at (at + 1) c (omega arith) skip so_far
+        where
+          skip : (s' : Shift) (row' : ℕ) → row' < length stops → at ≤ place (length stops) s' row' → place (length stops) s' row' < at + 1 → label s' row' ≡ None
+          skip s' row' i lo hi = let w = only s' row' i lo hi in subst (λ (r : ℕ). label s' r ≡ None) w.1 (subst (λ (t : Shift). label t row ≡ None) w.0 none)
 
-  -- ---- the rows are taken from the last back
-  -- the rows in `rest` are still to come, and those behind them are chained
-  pub record ChainedBehind (rest : List StopRow) (heads nexts : List (Option ℕ)) : Type 0 where
-    pub passed : List StopRow
-    pub whole : stops ≡ rest ++ passed
-    pub chained : ChainedFrom (length rest) heads nexts
+      module _ (some : is_some (label s row) ≡ true) where
+        abbrev c' : Arrivals
+        c' = with_arrival c station at
 
-  -- x, the stop in the row, is taken as the last of these, and only `left` is still to come
-  pub record Taken (left : List StopRow) (x : StopRow) (row : ℕ) (heads nexts : List (Option ℕ)) : Type 0 where
-    pub inside : row < length stops
-    pub is : stop_at stops row ≡ x
-    pub passed_over : is_some (label row) ≡ false → ChainedBehind left heads nexts
-    pub linked : x.station ≤ 1023 → is_some (label row) ≡ true → ChainedBehind left (set heads x.station (Some row)) (set nexts row (get_or heads x.station None))
+        here : Link stops label station (at + 1) (Some at)
+        here =
+            record {
+              ahead = omega arith;
+              passed_over = λ s' row' i lo hi e. absurd (omega arith);
+              arrives = record { shift = s; row = row; inside = inside; is = refl; here = refl; labelled = some };
+            }
 
-  pub taken : (rest left : List StopRow) (x : StopRow) (row : ℕ) (heads nexts : List (Option ℕ)) → length stops ≤ 4096 → rest ≡ push left x → row ≡ length left → ChainedBehind rest heads nexts → Taken left x row heads nexts
-  taken rest left x row heads nexts few last at c =
-      record {
-        inside = inside;
-        is = is;
-        passed_over = λ none. behind heads nexts (chained_skip row heads nexts none from_next);
-        linked = λ st some.
-            behind _ _ (subst (λ (y : StopRow). y.station ≤ 1023 → ChainedFrom row (set heads y.station (Some row)) (set nexts row (get_or heads y.station None))) is
-            (λ known. chained_more row heads nexts inside few known some from_next) st);
-      }
-    where
-      whole : stops ≡ left ++ (x ∷ c.passed)
-      whole = c.whole ∙ ap (λ (r : List StopRow). r ++ c.passed) last ∙ append_assoc left (x ∷ []) c.passed
+        other : (st : ℕ) → st ≤ 1023 → st ≢ station → Link stops label st (at + 1) (get_or c'.heads st None)
+        other st h ne =
+            subst (Link stops label st (at + 1)) (sym (get_or-set_other c.heads station st (Some at) None ne))
+            (link_on st at (at + 1) (get_or c.heads st None) (omega arith)
+            (λ s' row' i lo hi e. let w = only s' row' i lo hi in absurd (ne (sym (ap (λ r. (stop_at stops r).station) w.1 ∙ e)))) (so_far.first st h))
 
-      inside : row < length stops
-      inside = omega (arith, at, ap length whole, length-append left (x ∷ c.passed))
+        first_at : (st : ℕ) → st ≤ 1023 → ((st < station) ⊎ (station ≤ st)) → ((station < st) ⊎ (st ≤ station)) → Link stops label st (at + 1) (get_or c'.heads st None)
+        first_at st h (inr g) (inr f) =
+            let e : station ≡ st = omega arith in
+            let w : station < length c.heads = omega (arith, so_far.long_heads) in
+            subst (λ (x : ℕ). Link stops label x (at + 1) (get_or c'.heads x None)) e
+            (subst (Link stops label station (at + 1)) (sym (get_or-set_same c.heads station (Some at) None w)) here)
+        first_at st h (inl g) f = let ne : st ≢ station = omega arith in other st h ne
+        first_at st h (inr g) (inl f) = let ne : st ≢ station = omega arith in other st h ne
 
-      is : stop_at stops row ≡ x
-      is = ap₂ stop_at whole at ∙ get_or-append_seam left x c.passed _
+        next_at : (st x : ℕ) → x < at + 1 → ArrivesAt stops label st x → ((x < at) ⊎ (at ≤ x)) → Link stops label st x (get_or c'.nexts x None)
+        next_at st x l r (inl g) =
+            let ne : x ≢ at = omega arith in
+            subst (Link stops label st x) (sym (get_or-set_other c.nexts at x (get_or c.heads station None) None ne)) (so_far.next st x g r)
+        next_at st x l r (inr g) =
+            let e : at ≡ x = omega arith in
+            let w : at < length c.nexts = omega (arith, so_far.long_nexts, place_below s (length stops) row inside) in
+            let who = only r.shift r.row r.inside (omega (arith, r.is)) (omega (arith, r.is)) in
+            let st_is : station ≡ st = ap (λ i. (stop_at stops i).station) who.1 ∙ r.here in
+            subst (λ (y : ℕ). Link stops label st y (get_or c'.nexts y None)) e
+            (subst (λ (y : ℕ). Link stops label y at (get_or c'.nexts at None)) st_is
+            (subst (Link stops label station at) (sym (get_or-set_same c.nexts at (get_or c.heads station None) None w)) (so_far.first station known)))
 
-      from_next : ChainedFrom (suc row) heads nexts
-      from_next = let e : length rest ≡ suc row = omega (arith, ap length last, length_push left x, at) in subst (λ (n : ℕ). ChainedFrom n heads nexts) e c.chained
+        add_some : Chained stops label (at + 1) c'
+        add_some =
+            record {
+              long_heads = length-set c.heads station (Some at) ∙ so_far.long_heads;
+              long_nexts = length-set c.nexts at (get_or c.heads station None) ∙ so_far.long_nexts;
+              first = λ st h. first_at st h (cases_lt st station) (cases_lt station st);
+              next = λ st x l r. next_at st x l r (cases_lt x at);
+            }
 
-      behind : (heads' nexts' : List (Option ℕ)) → ChainedFrom row heads' nexts' → ChainedBehind left heads' nexts'
-      behind heads' nexts' f = record { passed = x ∷ c.passed; whole = whole; chained = subst (λ (n : ℕ). ChainedFrom n heads' nexts') at f }
+      pub chained_more : (o : Option (Label A)) → label s row ≡ o → Chained stops label (at + 1) (arrived c station at o)
+      chained_more None e = add_none e
+      chained_more (Some l) e = add_some (ap is_some e)

@@ -5,10 +5,7 @@ use Rattle.tariff.specs.Laws.{Connex, Transitive}
 use Rattle.tariff.specs.Meaning.{Meaning}
 use Rattle.connection.specs.Choosing.{cheaper}
 use Rattle.connection.specs.Ways.{Among, Best}
-use Rattle.connection.specs.declared.ride.Shift.{Shift}
-use Rattle.connection.specs.declared.ride.Shift.TheVariants.{DayBefore, SameDay, DayAfter}
-use Rattle.connection.proofs.Best.{refl_from, best_more, best_of_shifts, best_skip}
-use Rattle.search.specs.Shifts.{of_shifts}
+use Rattle.connection.proofs.Best.{refl_from, best_more, best_skip}
 use Rattle.search.specs.Working.{costs_at_most}
 
 module _ {A L : Type 0} (m : Meaning A) (connex : Connex m) (transitive : Transitive m) (total : L → A) where
@@ -25,15 +22,6 @@ module _ {A L : Type 0} (m : Meaning A) (connex : Connex m) (transitive : Transi
   pub itself : (o : Option L) → Best no_dearer (λ l. o ≡ Some l) o
   itself None = none-some
   itself (Some a) = (refl, λ l e. subst (λ (w : L). T (no_dearer a w)) (same_Some a l e) (refl_from no_dearer chosen_connex a))
-
-  -- the best of three shifts
-  pub shifts_best : (P : Shift → L → Type 0) (found : Shift → Option L) (r : Option L) → ((s : Shift) → Best no_dearer (P s) (found s)) → r ≡ of_shifts no_dearer found → Best no_dearer (λ l. (s : Shift) × P s l) r
-  shifts_best P found r each e =
-      rw e (best_of_shifts no_dearer chosen_connex chosen_trans P (found DayBefore) (found SameDay) (found DayAfter) (each DayBefore) (each SameDay) (each DayAfter))
-
-  -- the same of what is found for each
-  pub best_shift : (there found : Shift → Option L) (r : Option L) → ((s : Shift) → found s ≡ there s) → r ≡ of_shifts no_dearer found → Best no_dearer (λ l. (s : Shift) × (there s ≡ Some l)) r
-  best_shift there found r is e = shifts_best (λ s l. there s ≡ Some l) found r (λ s. rw (is s) (itself (there s))) e
 
   -- one more
   module _ (P : ℕ → L → Type 0) (n : ℕ) (best best' : Option L) where

@@ -13,7 +13,7 @@ use Rattle.search.specs.Ends.{known_total, Known}
 use Rattle.search.specs.Layers.{InOrder, row_of, Holds, Filled, UnchangedBelow, BlankFrom, Fills}
 use Rattle.search.specs.Records.{label_of}
 use Rattle.search.specs.Working.{number, place, layer_at, part_at, label_in}
-use Rattle.search.specs.declared.ends.End.{End}
+use Rattle.search.specs.declared.reached.Reached.{Reached}
 use Rattle.search.specs.declared.record.WorkRecord.{WorkRecord}
 use Rattle.search.proofs.BlankRecords.{blank_less}
 use Rattle.search.proofs.FillingRuns.{or_none}
@@ -22,7 +22,7 @@ use Rattle.search.proofs.RowsAreTrains.{fits, place_below}
 use Rattle.search.proofs.Unchanged.{unchanged_sym, unchanged_then, holds_same, filled_same, holds_still, filled_still}
 
 module _ {A : Type 0} {m : Meaning A} {q : Query} {rows : List TrainRow} {stops : List StopRow} (ok : InOrder rows stops) {layer : ℕ} where
-  pub fills_none : {May : Pairs → Type 0} {table : List (WorkRecord A)} {x : ℕ} {known : Option (End A)} → Fills m q rows stops layer May table table x x false known known
+  pub fills_none : {May : Pairs → Type 0} {table : List (WorkRecord A)} {x : ℕ} {known : Reached A} → Fills m q rows stops layer May table table x x false known known
   fills_none =
       record {
         unchanged = λ z h. refl;
@@ -30,10 +30,11 @@ module _ {A : Type 0} {m : Meaning A} {q : Query} {rows : List TrainRow} {stops 
         nothing = λ e n s i ln li low high. absurd (omega arith);
         known = λ h. h;
         no_dearer = λ t h. h;
+        chained = λ h. h;
         settled = λ runs may filled n s i ln li low high. absurd (omega arith);
       }
 
-  module _ {May May' : Pairs → Type 0} {old mid new : List (WorkRecord A)} {x y z : ℕ} {found found' : Bool} {before between after : Option (End A)} (a : Fills m q rows stops layer May old mid x y found before between) (b : Fills m q rows stops layer May' mid new y z found' between after) (so : (runs : Pairs) → May runs → May' runs) (order : x ≤ y) where
+  module _ {May May' : Pairs → Type 0} {old mid new : List (WorkRecord A)} {x y z : ℕ} {found found' : Bool} {before between after : Reached A} (a : Fills m q rows stops layer May old mid x y found before between) (b : Fills m q rows stops layer May' mid new y z found' between after) (so : (runs : Pairs) → May runs → May' runs) (order : x ≤ y) where
     below : UnchangedBelow (layer_at (length stops) layer) old mid
     below w h = a.unchanged w (omega arith)
 
@@ -58,49 +59,50 @@ module _ {A : Type 0} {m : Meaning A} {q : Query} {rows : List TrainRow} {stops 
               of_both (λ n s i o. o ≡ None) n s i (λ h. a.nothing none.0 n s i ln li low h) (λ h. b.nothing none.1 n s i ln li h high);
           known = λ h. b.known (a.known h);
           no_dearer = λ t h. b.no_dearer t (a.no_dearer t h);
+          chained = λ h. b.chained (a.chained h);
           settled = λ runs may filled n s i ln li low high.
-              let earlier = filled_still m runs q rows stops ok before between a.no_dearer layer old filled in
-              of_both (λ n s i o. Holds m runs q rows stops (known_total after) old layer n s i o) n s i
-              (λ h. holds_still m runs q rows stops ok between after b.no_dearer layer n s i _ old (a.settled runs may filled n s i ln li low h))
-              (λ h. holds_same m runs q rows stops ok (known_total after) layer n s i (label_in (length stops) new layer s (row_of rows n i)) mid old (unchanged_sym (layer_at (length stops) layer) old mid below)
-              (b.settled runs (so runs may) (filled_same m runs q rows stops ok (known_total between) layer old mid below earlier) n s i ln li h high));
+              let earlier = filled_still m runs q rows stops ok before.end between.end a.no_dearer layer old filled in
+              of_both (λ n s i o. Holds m runs q rows stops (known_total after.end) old layer n s i o) n s i
+              (λ h. holds_still m runs q rows stops ok between.end after.end b.no_dearer layer n s i _ old (a.settled runs may filled n s i ln li low h))
+              (λ h. holds_same m runs q rows stops ok (known_total after.end) layer n s i (label_in (length stops) new layer s (row_of rows n i)) mid old (unchanged_sym (layer_at (length stops) layer) old mid below)
+              (b.settled runs (so runs may) (filled_same m runs q rows stops ok (known_total between.end) layer old mid below earlier) n s i ln li h high));
         }
 
   -- a whole layer more
-  pub filled_layer : {May : Pairs → Type 0} {old new : List (WorkRecord A)} {found : Bool} {before after : Option (End A)} → Fills m q rows stops layer May old new 0 (3 * length stops) found before after → (runs : Pairs) → May runs → Filled m runs q rows stops (known_total before) old layer → Filled m runs q rows stops (known_total after) new (layer + 1)
+  pub filled_layer : {May : Pairs → Type 0} {old new : List (WorkRecord A)} {found : Bool} {before after : Reached A} → Fills m q rows stops layer May old new 0 (3 * length stops) found before after → (runs : Pairs) → May runs → Filled m runs q rows stops (known_total before.end) old layer → Filled m runs q rows stops (known_total after.end) new (layer + 1)
   filled_layer {May} {old} {new} {found} {before} {after} fills runs may filled k n s i lk ln li = go (cases_lt k layer)
     where
       same : UnchangedBelow (layer_at (length stops) layer) old new
       same z h = fills.unchanged z (omega arith)
 
-      go : ((k < layer) ⊎ (layer ≤ k)) → Holds m runs q rows stops (known_total after) new k n s i (label_in (length stops) new k s (row_of rows n i))
-      go (inl h) = filled_same m runs q rows stops ok (known_total after) layer old new same (filled_still m runs q rows stops ok before after fills.no_dearer layer old filled) k n s i h ln li
+      go : ((k < layer) ⊎ (layer ≤ k)) → Holds m runs q rows stops (known_total after.end) new k n s i (label_in (length stops) new k s (row_of rows n i))
+      go (inl h) = filled_same m runs q rows stops ok (known_total after.end) layer old new same (filled_still m runs q rows stops ok before.end after.end fills.no_dearer layer old filled) k n s i h ln li
       go (inr h) =
           let e : layer ≡ k = omega arith in
           let inside = fits rows stops ok n ln in
           let below = place_below s (length stops) (row_of rows n i) (omega arith) in
-          let here = holds_same m runs q rows stops ok (known_total after) layer n s i (label_in (length stops) new layer s (row_of rows n i)) old new same (fills.settled runs may filled n s i ln li (omega arith) below) in
-          subst (λ (j : ℕ). Holds m runs q rows stops (known_total after) new j n s i (label_in (length stops) new j s (row_of rows n i))) e here
+          let here = holds_same m runs q rows stops ok (known_total after.end) layer n s i (label_in (length stops) new layer s (row_of rows n i)) old new same (fills.settled runs may filled n s i ln li (omega arith) below) in
+          subst (λ (j : ℕ). Holds m runs q rows stops (known_total after.end) new j n s i (label_in (length stops) new j s (row_of rows n i))) e here
 
   -- the end that is known ahead of the layer is, after it, the end that is known ahead of the next
-  pub known_layer : {May : Pairs → Type 0} {old new : List (WorkRecord A)} {found : Bool} {before after : Option (End A)} → Fills m q rows stops layer May old new 0 (3 * length stops) found before after → Known stops old q.destination (layer_at (length stops) layer) m before → Known stops new q.destination (layer_at (length stops) (layer + 1)) m after
+  pub known_layer : {May : Pairs → Type 0} {old new : List (WorkRecord A)} {found : Bool} {before after : Reached A} → Fills m q rows stops layer May old new 0 (3 * length stops) found before after → Known stops old q.destination (layer_at (length stops) layer) m before.end → Known stops new q.destination (layer_at (length stops) (layer + 1)) m after.end
   known_layer {May} {old} {new} {found} {before} {after} fills h =
       let begins : layer_at (length stops) layer ≡ layer_at (length stops) layer + 0 = omega arith in
       let ends : layer_at (length stops) layer + 3 * length stops ≡ layer_at (length stops) (layer + 1) = sym (ap (layer_at (length stops)) (add-one layer) ∙ next_layer (length stops) layer) in
-      subst (λ (x : ℕ). Known stops new q.destination x m after) ends (fills.known (subst (λ (x : ℕ). Known stops old q.destination x m before) begins h))
+      subst (λ (x : ℕ). Known stops new q.destination x m after.end) ends (fills.known (subst (λ (x : ℕ). Known stops old q.destination x m before.end) begins h))
 
-  pub blank_layer : {May : Pairs → Type 0} {old new : List (WorkRecord A)} {found : Bool} {before after : Option (End A)} → Fills m q rows stops layer May old new 0 (3 * length stops) found before after → BlankFrom (layer_at (length stops) layer) old → BlankFrom (layer_at (length stops) (layer + 1)) new
+  pub blank_layer : {May : Pairs → Type 0} {old new : List (WorkRecord A)} {found : Bool} {before after : Reached A} → Fills m q rows stops layer May old new 0 (3 * length stops) found before after → BlankFrom (layer_at (length stops) layer) old → BlankFrom (layer_at (length stops) (layer + 1)) new
   blank_layer {May} {old} {new} fills h =
       let size = length stops in
       blank_less (layer_at size layer + 3 * size) (layer_at size (layer + 1)) new (omega (arith, ap (layer_at size) (add-one layer) ∙ next_layer size layer))
       (fills.blank (blank_less (layer_at size layer) (layer_at size layer + 0) old (omega arith) h))
 
-  pub moved_to : {May : Pairs → Type 0} {old new : List (WorkRecord A)} {x x' y y' : ℕ} {found : Bool} {before after : Option (End A)} → x ≡ x' → y ≡ y' → Fills m q rows stops layer May old new x y found before after → Fills m q rows stops layer May old new x' y' found before after
+  pub moved_to : {May : Pairs → Type 0} {old new : List (WorkRecord A)} {x x' y y' : ℕ} {found : Bool} {before after : Reached A} → x ≡ x' → y ≡ y' → Fills m q rows stops layer May old new x y found before after → Fills m q rows stops layer May old new x' y' found before after
   moved_to {May} {old} {new} {x} {x'} {y} {y'} {found} {before} {after} ex ey f =
       subst (λ (u : ℕ). Fills m q rows stops layer May old new u y' found before after) ex (subst (λ (v : ℕ). Fills m q rows stops layer May old new x v found before after) ey f)
 
   -- the part of one shift more
-  pub fills_part : {May Of : Pairs → Type 0} {old mid new : List (WorkRecord A)} {k : ℕ} {found found' : Bool} {first between after : Option (End A)} (s : Shift) → number s ≡ k → Fills m q rows stops layer May old mid 0 (k * length stops) found first between → Fills m q rows stops layer Of mid new (place (length stops) s 0) (place (length stops) s (length stops)) found' between after → ((runs : Pairs) → May runs → Of runs) → Fills m q rows stops layer May old new 0 ((k + 1) * length stops) (found || found') first after
+  pub fills_part : {May Of : Pairs → Type 0} {old mid new : List (WorkRecord A)} {k : ℕ} {found found' : Bool} {first between after : Reached A} (s : Shift) → number s ≡ k → Fills m q rows stops layer May old mid 0 (k * length stops) found first between → Fills m q rows stops layer Of mid new (place (length stops) s 0) (place (length stops) s (length stops)) found' between after → ((runs : Pairs) → May runs → Of runs) → Fills m q rows stops layer May old new 0 ((k + 1) * length stops) (found || found') first after
   fills_part {May} {Of} {old} {mid} {new} {k} {found} {found'} {first} {between} {after} s e before part so =
       let begins : place (length stops) s 0 ≡ k * length stops = omega (arith, ap (λ x. x * length stops) e) in
       let ends : place (length stops) s (length stops) ≡ (k + 1) * length stops = omega (arith, ap (λ x. x * length stops) e) in

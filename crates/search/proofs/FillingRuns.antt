@@ -19,16 +19,18 @@ use Rattle.connection.specs.declared.query.Query.{Query}
 use Rattle.connection.specs.declared.ride.Shift.{Shift}
 use Rattle.connection.proofs.Onward.{settles_first_stop, settles_next_stop, settles_excused}
 use Rattle.connection.proofs.Times.{Punctual, on_time}
+use Rattle.search.specs.Chains.{arrived, Chained}
 use Rattle.search.specs.Ends.{ends_no_dearer, known_total, is_end, end_here, Known, NoDearer}
 use Rattle.search.specs.Layers.{row_of, Trail, Holds, Filled, UnchangedBelow, BlankFrom, NoLabelBetween, SettledBetween, Fills, RunAsked, run_begins, run_ends}
 use Rattle.search.specs.Records.{record_of, label_of}
 use Rattle.search.specs.Working.{number, place, layer_at, part_at, label_at, label_in, hopeless, beaten, if_worth_following}
 use Rattle.search.specs.declared.ends.End.{End}
+use Rattle.search.specs.declared.reached.Reached.{Reached}
 use Rattle.search.specs.declared.record.WorkRecord.{WorkRecord}
 use Rattle.search.proofs.Basis.{Basis}
 use Rattle.search.proofs.BeatenLabels.{Beater, beater}
 use Rattle.search.proofs.BlankRecords.{blank_less, blank_behind}
-use Rattle.search.proofs.Chaining.{not_some}
+use Rattle.search.proofs.Chaining.{not_some, chained_same, chained_more}
 use Rattle.search.proofs.KnownEnds.{cheaper_no_dearer, known_more}
 use Rattle.search.proofs.RowsAreTrains.{fits, count_is, stop_is, same_row, same_place}
 use Rattle.search.proofs.Unchanged.{label_same, unchanged_sym, boarding_same, filled_same, holds_still, filled_still}
@@ -44,7 +46,7 @@ module _ {A : Type 0} (m : Meaning A) where
   is_hopeless None t e = let z : ◌≡◌ {A = ℕ} 0 1 = cc in absurd (omega arith)
   is_hopeless (Some best) t e = subst T (sym e) tt
 
-module _ {A : Type 0} (m : Meaning A) (q : Query) (rows : List TrainRow) (stops : List StopRow) (layer n : ℕ) (s : Shift) (before : Option (End A)) where
+module _ {A : Type 0} (m : Meaning A) (q : Query) (rows : List TrainRow) (stops : List StopRow) (layer n : ℕ) (s : Shift) (before : Reached A) where
   abbrev size : ℕ
   size = length stops
 
@@ -59,17 +61,18 @@ module _ {A : Type 0} (m : Meaning A) (q : Query) (rows : List TrainRow) (stops 
 
   -- if the calendar says so, and the layers before are filled
   abbrev When : (Pairs → Type 0) → List (WorkRecord A) → Type 0
-  When P table = (runs : Pairs) → RunAsked q (train_row n rows) s true runs → Filled m runs q rows stops (known_total before) table layer → P runs
+  When P table = (runs : Pairs) → RunAsked q (train_row n rows) s true runs → Filled m runs q rows stops (known_total before.end) table layer → P runs
 
-  -- the run up to its stop i; `before` was the cheapest known end ahead of it, `known` is it now
-  pub record FilledTo (old new : List (WorkRecord A)) (i : ℕ) (found : Bool) (aboard : Option (Label A)) (known : Option (End A)) : Type 0 where
+  -- the run up to its stop i; `before` was reached ahead of it, `now` is
+  pub record FilledTo (old new : List (WorkRecord A)) (i : ℕ) (found : Bool) (aboard : Option (Label A)) (now : Reached A) : Type 0 where
     pub unchanged : UnchangedBelow start old new
     pub blank : BlankFrom (start + i) new
     pub nothing : found ≡ false → (j : ℕ) → j < i → label_at new (start + j) ≡ None
-    pub known_end : Known stops old q.destination (layer_at size layer + place size s first) m before → Known stops new q.destination (start + i) m known
-    pub no_dearer : NoDearer m before known
-    pub settled : When (λ runs. (j : ℕ) → j < i → Holds m runs q rows stops (known_total known) old layer n s j (label_at new (start + j))) old
-    pub coming : When (λ runs. i < count → Holds m runs q rows stops (known_total known) old layer n s i aboard) old
+    pub known_end : Known stops old q.destination (layer_at size layer + place size s first) m before.end → Known stops new q.destination (start + i) m now.end
+    pub no_dearer : NoDearer m before.end now.end
+    pub chained : Chained stops (label_in size old layer) (place size s first) before.arrivals → Chained stops (label_in size new layer) (place size s first + i) now.arrivals
+    pub settled : When (λ runs. (j : ℕ) → j < i → Holds m runs q rows stops (known_total now.end) old layer n s j (label_at new (start + j))) old
+    pub coming : When (λ runs. i < count → Holds m runs q rows stops (known_total now.end) old layer n s i aboard) old
 
   layer_before_start : layer_at size layer ≤ start
   layer_before_start = omega arith
@@ -90,14 +93,15 @@ module _ {A : Type 0} (m : Meaning A) (q : Query) (rows : List TrainRow) (stops 
           unchanged = λ z h. refl;
           blank = blank_less (layer_at size layer + place size s first) (start + 0) old (omega (arith, start_is)) b;
           nothing = λ e j h. absurd (omega arith);
-          known_end = subst (λ (x : ℕ). Known stops old q.destination x m before) (omega (arith, start_is));
+          known_end = subst (λ (x : ℕ). Known stops old q.destination x m before.end) (omega (arith, start_is));
           no_dearer = λ t h. h;
+          chained = subst (λ (x : ℕ). Chained stops (label_in size old layer) x before.arrivals) (omega arith);
           settled = λ runs may filled j h. absurd (omega arith);
-          coming = λ runs may filled h. settles_first_stop m basis.connex basis.transitive basis.grows basis.keeps basis.starts basis.counts trains punctual runs q (known_total before) (Trail rows size old layer) layer n s;
+          coming = λ runs may filled h. settles_first_stop m basis.connex basis.transitive basis.grows basis.keeps basis.starts basis.counts trains punctual runs q (known_total before.end) (Trail rows size old layer) layer n s;
         }
 
     -- ---- a label that is not worth following is dropped
-    module _ (old new : List (WorkRecord A)) (unchanged : UnchangedBelow start old new) (known : Option (End A)) (runs : Pairs) (filled : Filled m runs q rows stops (known_total before) old layer) (i : ℕ) (li : i < count) where
+    module _ (old new : List (WorkRecord A)) (unchanged : UnchangedBelow start old new) (known : Option (End A)) (runs : Pairs) (filled : Filled m runs q rows stops (known_total before.end) old layer) (i : ℕ) (li : i < count) where
       abbrev Held : Option (Label A) → Type 0
       Held = Holds m runs q rows stops (known_total known) old layer n s i
 
@@ -112,7 +116,7 @@ module _ {A : Type 0} (m : Meaning A) (q : Query) (rows : List TrainRow) (stops 
           let inside = fits rows stops basis.timetable.ordered n ln in
           let held_new : label_in size new k s row ≡ Some b.label = ap (label_at new) (add_assoc (layer_at size k) (number s * size) row) ∙ b.held in
           let same = label_same size k layer s row old new b.earlier (omega arith) (λ z w. unchanged z (omega (arith, layer_before_start))) in
-          let there = subst (Holds m runs q rows stops (known_total before) old k n s i) (sym same ∙ held_new) (filled k n s i b.earlier ln li) in
+          let there = subst (Holds m runs q rows stops (known_total before.end) old k n s i) (sym same ∙ held_new) (filled k n s i b.earlier ln li) in
           (k, b.earlier, b.label.total, there.is_one.0, b.no_dearer)
 
       kept : (o : Option (Label A)) → Held o → Held (if_worth_following m size new (place size s (row_of rows n i)) (known_total known) layer o)
@@ -126,7 +130,16 @@ module _ {A : Type 0} (m : Meaning A) (q : Query) (rows : List TrainRow) (stops 
           go false e false f = h
 
     -- ---- one stop more
-    module _ (old new : List (WorkRecord A)) (i : ℕ) (found : Bool) (aboard KeptLabel : Option (Label A)) (known known' : Option (End A)) (state : FilledTo old new i found aboard known) (li : i < count) (room : start + i < length new) (is_kept : KeptLabel ≡ if_worth_following m size new (place size s (row_of rows n i)) (known_total known) layer aboard) (next : List (WorkRecord A)) (is_next : next ≡ set new (start + i) (record_of KeptLabel)) (is_known : known' ≡ cheaper (ends_no_dearer m) known (end_here (is_end (stop_at stops (row_of rows n i)) q.destination) layer (place size s (row_of rows n i)) KeptLabel)) where
+    module _ (old new : List (WorkRecord A)) (i : ℕ) (found : Bool) (aboard KeptLabel : Option (Label A)) (now now' : Reached A) (state : FilledTo old new i found aboard now) (li : i < count) (room : start + i < length new) (is_kept : KeptLabel ≡ if_worth_following m size new (place size s (row_of rows n i)) (known_total now.end) layer aboard) (next : List (WorkRecord A)) (is_next : next ≡ set new (start + i) (record_of KeptLabel)) (is_known : now'.end ≡ cheaper (ends_no_dearer m) now.end (end_here (is_end (stop_at stops (row_of rows n i)) q.destination) layer (place size s (row_of rows n i)) KeptLabel)) (is_arrived : now'.arrivals ≡ arrived now.arrivals (stop_at stops (row_of rows n i)).station (place size s (row_of rows n i)) KeptLabel) where
+      abbrev known : Option (End A)
+      known = now.end
+
+      abbrev known' : Option (End A)
+      known' = now'.end
+
+      at_is : start + i ≡ layer_at size layer + place size s (row_of rows n i)
+      at_is = omega (arith, start_is, add_assoc (number s * size) first i)
+
       next_unchanged : UnchangedBelow start old next
       next_unchanged = unchanged_still start i old new next KeptLabel state.unchanged is_next
 
@@ -139,12 +152,28 @@ module _ {A : Type 0} (m : Meaning A) (q : Query) (rows : List TrainRow) (stops 
       still : (runs : Pairs) (j : ℕ) (o : Option (Label A)) → Holds m runs q rows stops (known_total known) old layer n s j o → Still runs j o
       still runs j o h = holds_still m runs q rows stops basis.timetable.ordered known known' better layer n s j o old h
 
-      next_known : Known stops old q.destination (layer_at size layer + place size s first) m before → Known stops next q.destination (start + (i + 1)) m known'
+      next_known : Known stops old q.destination (layer_at size layer + place size s first) m before.end → Known stops next q.destination (start + (i + 1)) m known'
       next_known h =
           let inside = fits rows stops basis.timetable.ordered n ln in
-          let at_is : start + i ≡ layer_at size layer + place size s (row_of rows n i) = omega (arith, start_is, add_assoc (number s * size) first i) in
           let more = known_more m basis.connex basis.transitive stops q.destination layer s (row_of rows n i) (start + i) (omega arith) at_is new next KeptLabel room is_next known known' is_known (state.known_end h) in
           subst (λ (x : ℕ). Known stops next q.destination x m known') (add_assoc start i 1) more
+
+      next_chained : Chained stops (label_in size old layer) (place size s first) before.arrivals → Chained stops (label_in size next layer) (place size s first + (i + 1)) now'.arrivals
+      next_chained h =
+          let row = row_of rows n i in
+          let inside : row < size = omega (arith, fits rows stops basis.timetable.ordered n ln) in
+          let here : place size s first + i ≡ place size s row = add_assoc (number s * size) first i in
+          let same = λ (s' : Shift) (row' : ℕ) (l : row' < size) (g : place size s' row' < place size s first + i).
+          ap (λ t. label_at t (part_at size layer s' + row')) is_next
+          ∙ ap label_of (written_same new (start + i) KeptLabel (part_at size layer s' + row') (inl (omega (arith, g, start_is, add_assoc (layer_at size layer) (number s' * size) row'))))
+          in
+          let so_far = chained_same stops (label_in size new layer) (label_in size next layer) (place size s first + i) same now.arrivals (state.chained h) in
+          let label_is : label_in size next layer s row ≡ KeptLabel =
+          ap (label_at next) (add_assoc (layer_at size layer) (number s * size) row ∙ sym at_is) ∙ ap (λ t. label_at t (start + i)) is_next ∙ written_here new (start + i) KeptLabel room
+          in
+          let more = chained_more stops (label_in size next layer) s row inside basis.timetable.ordered.few_stops (basis.timetable.timely.stations row inside) now.arrivals (subst (λ (x : ℕ). Chained stops (label_in size next layer) x now.arrivals) here so_far) KeptLabel label_is in
+          let there : place size s row + 1 ≡ place size s first + (i + 1) = omega (arith, here) in
+          subst (λ (x : ℕ). Chained stops (label_in size next layer) x now'.arrivals) there (subst (Chained stops (label_in size next layer) (place size s row + 1)) (sym is_arrived) more)
 
       kept_holds : When (λ runs. Still runs i KeptLabel) old
       kept_holds runs may filled = still runs i KeptLabel (subst (Holds m runs q rows stops (known_total known) old layer n s i) (sym is_kept) (kept old new state.unchanged known runs filled i li aboard (state.coming runs may filled li)))
@@ -162,7 +191,7 @@ module _ {A : Type 0} (m : Meaning A) (q : Query) (rows : List TrainRow) (stops 
               let e : i ≡ j = omega arith in
               subst (λ (k : ℕ). P k (label_at next (start + k))) e (subst (P i) (sym (ap (λ t. label_at t (start + i)) is_next ∙ written_here new (start + i) KeptLabel room)) here)
 
-      pub filled_more : (found' : Bool) (aboard' : Option (Label A)) → found' ≡ (found || is_some KeptLabel) → When (λ runs. i + 1 < count → Still runs (i + 1) aboard') old → FilledTo old next (i + 1) found' aboard' known'
+      pub filled_more : (found' : Bool) (aboard' : Option (Label A)) → found' ≡ (found || is_some KeptLabel) → When (λ runs. i + 1 < count → Still runs (i + 1) aboard') old → FilledTo old next (i + 1) found' aboard' now'
       filled_more found' aboard' ef coming =
           record {
             unchanged = next_unchanged;
@@ -170,6 +199,7 @@ module _ {A : Type 0} (m : Meaning A) (q : Query) (rows : List TrainRow) (stops 
             nothing = λ e. let p = or_none found (is_some KeptLabel) (sym ef ∙ e) in up_to (λ j o. o ≡ None) (state.nothing p.0) (not_some KeptLabel p.1);
             known_end = next_known;
             no_dearer = λ t h. better t (state.no_dearer t h);
+            chained = next_chained;
             settled = λ runs may filled. up_to (Still runs) (λ j l. still runs j _ (state.settled runs may filled j l)) (kept_holds runs may filled);
             coming = coming;
           }
@@ -181,7 +211,7 @@ module _ {A : Type 0} (m : Meaning A) (q : Query) (rows : List TrainRow) (stops 
           let below : UnchangedBelow (layer_at size layer) old next = λ z w. next_unchanged z (omega (arith, layer_before_start)) in
           let back : UnchangedBelow (layer_at size layer) next old = unchanged_sym (layer_at size layer) old next below in
           let best = known_total known' in
-          let later = filled_still m runs q rows stops basis.timetable.ordered before known' (λ t w. better t (state.no_dearer t w)) layer old filled in
+          let later = filled_still m runs q rows stops basis.timetable.ordered before.end known' (λ t w. better t (state.no_dearer t w)) layer old filled in
           let b = boarding_same m runs q rows stops basis.timetable.ordered best layer n s i boarded next old back (boards runs best may (filled_same m runs q rows stops basis.timetable.ordered best layer old next below later)) in
           let is_stop : stop_of trains n i ≡ stop = stop_is rows stops basis.timetable.ordered n i ln li ∙ sym at_stop in
           let is_there : stop_of trains n (suc i) ≡ there = stop_is rows stops basis.timetable.ordered n (suc i) ln (omega arith) ∙ ap (λ j. stop_at stops (row_of rows n j)) (sym (add-one i)) ∙ sym at_there in
@@ -205,7 +235,7 @@ module _ {A : Type 0} (m : Meaning A) (q : Query) (rows : List TrainRow) (stops 
         let who = same_row rows stops basis.timetable.ordered n i n' i' ln li ln' li' same.1 in
         subst (λ (k : ℕ). P k s' i') who.0 (subst (λ (t : Shift). P n t i') same.0 (subst (P n s) who.1 (all i li)))
 
-    module _ (old new : List (WorkRecord A)) (found : Bool) (aboard : Option (Label A)) (known : Option (End A)) (state : FilledTo old new count found aboard known) where
+    module _ (old new : List (WorkRecord A)) (found : Bool) (aboard : Option (Label A)) (now : Reached A) (state : FilledTo old new count found aboard now) where
       run_unchanged : UnchangedBelow (layer_at size layer + place size s first) old new
       run_unchanged z h = state.unchanged z (omega (arith, add_assoc (layer_at size layer) (number s * size) first))
 
@@ -216,18 +246,21 @@ module _ {A : Type 0} (m : Meaning A) (q : Query) (rows : List TrainRow) (stops 
       run_nothing e n' s' i' ln' li' low high =
           of_the_run (λ k t j. label_in size new layer t (row_of rows k j) ≡ None) n' s' i' ln' li' low high (λ i li. sym (row_label i) ∙ state.nothing e i li)
 
-      run_settled : When (λ runs. SettledBetween m q rows stops runs (known_total known) old new layer (place size s first) (place size s (row_of rows n count))) old
+      run_settled : When (λ runs. SettledBetween m q rows stops runs (known_total now.end) old new layer (place size s first) (place size s (row_of rows n count))) old
       run_settled runs may filled n' s' i' ln' li' low high =
-          of_the_run (λ k t j. Holds m runs q rows stops (known_total known) old layer k t j (label_in size new layer t (row_of rows k j))) n' s' i' ln' li' low high
-          (λ i li. subst (Holds m runs q rows stops (known_total known) old layer n s i) (row_label i) (state.settled runs may filled i li))
+          of_the_run (λ k t j. Holds m runs q rows stops (known_total now.end) old layer k t j (label_in size new layer t (row_of rows k j))) n' s' i' ln' li' low high
+          (λ i li. subst (Holds m runs q rows stops (known_total now.end) old layer n s i) (row_label i) (state.settled runs may filled i li))
 
-      run_known : Known stops old q.destination (layer_at size layer + place size s first) m before → Known stops new q.destination (layer_at size layer + place size s (row_of rows n count)) m known
+      run_known : Known stops old q.destination (layer_at size layer + place size s first) m before.end → Known stops new q.destination (layer_at size layer + place size s (row_of rows n count)) m now.end
       run_known h =
           let end : start + count ≡ layer_at size layer + place size s (row_of rows n count) = omega (arith, start_is, add_assoc (number s * size) first count) in
-          subst (λ (x : ℕ). Known stops new q.destination x m known) end (state.known_end h)
+          subst (λ (x : ℕ). Known stops new q.destination x m now.end) end (state.known_end h)
 
       run_blank : BlankFrom (layer_at size layer + place size s (row_of rows n count)) new
       run_blank = blank_less (start + count) (layer_at size layer + place size s (row_of rows n count)) new (omega (arith, start_is, add_assoc (number s * size) first count)) state.blank
 
-      pub fills_run : Fills m q rows stops layer (RunAsked q (train_row n rows) s true) old new (run_begins rows size n s) (run_ends rows size n s) found before known
-      fills_run = record { unchanged = run_unchanged; blank = λ h. run_blank; nothing = run_nothing; known = run_known; no_dearer = state.no_dearer; settled = run_settled }
+      run_chained : Chained stops (label_in size old layer) (place size s first) before.arrivals → Chained stops (label_in size new layer) (place size s (row_of rows n count)) now.arrivals
+      run_chained h = subst (λ (x : ℕ). Chained stops (label_in size new layer) x now.arrivals) (add_assoc (number s * size) first count) (state.chained h)
+
+      pub fills_run : Fills m q rows stops layer (RunAsked q (train_row n rows) s true) old new (run_begins rows size n s) (run_ends rows size n s) found before now
+      fills_run = record { unchanged = run_unchanged; blank = λ h. run_blank; nothing = run_nothing; known = run_known; no_dearer = state.no_dearer; chained = run_chained; settled = run_settled }

@@ -16,10 +16,11 @@ use Rattle.connection.proofs.Times.{Punctual, on_time}
 use Rattle.search.specs.Ends.{known_total}
 use Rattle.search.specs.Layers.{row_of, Trail, Holds, BlankFrom, Fills, RunAsked, run_begins, run_ends}
 use Rattle.search.specs.Working.{may_use, number, place, layer_at, part_at, label_in}
-use Rattle.search.specs.declared.ends.End.{End}
+use Rattle.search.specs.declared.reached.Reached.{Reached}
 use Rattle.search.specs.declared.record.WorkRecord.{WorkRecord}
 use Rattle.search.proofs.Basis.{Basis}
 use Rattle.search.proofs.BlankRecords.{blank_less, blank_label}
+use Rattle.search.proofs.Chaining.{chained_over}
 use Rattle.search.proofs.FillingRuns.{of_the_run}
 use Rattle.search.proofs.KnownEnds.{known_over}
 use Rattle.search.proofs.RowsAreTrains.{count_is}
@@ -42,7 +43,7 @@ module _ {A : Type 0} (m : Meaning A) (q : Query) (rows : List TrainRow) (stops 
       let long : suc i < length (stops_at trains n) = omega (arith, count_is rows stops basis.timetable.ordered n ln) in
       settles_next_stop m basis.connex basis.transitive basis.grows basis.keeps basis.starts basis.counts trains punctual runs q known (Trail rows size table layer) layer n s i long None None (none i (omega arith)) (idle runs known none i (omega arith))
 
-  module _ (before : Option (End A)) (blank : BlankFrom (layer_at size layer + run_begins rows size n s) table) where
+  module _ (before : Reached A) (blank : BlankFrom (layer_at size layer + run_begins rows size n s) table) where
     no_label : (s' : Shift) (row : ℕ) → run_begins rows size n s ≤ place size s' row → label_in size table layer s' row ≡ None
     no_label s' row low =
         blank_label (layer_at size layer + run_begins rows size n s) (part_at size layer s' + row) table blank (omega (arith, low, add_assoc (layer_at size layer) (number s' * size) row))
@@ -55,12 +56,13 @@ module _ {A : Type 0} (m : Meaning A) (q : Query) (rows : List TrainRow) (stops 
           unchanged = λ z h. refl;
           blank = blank_less (layer_at size layer + run_begins rows size n s) (layer_at size layer + run_ends rows size n s) table begins;
           nothing = λ e n' s' i' ln' li' low high. no_label s' (row_of rows n' i') low;
-          known = known_over m basis.connex basis.transitive stops q.destination (layer_at size layer + run_begins rows size n s) (layer_at size layer + run_ends rows size n s) table before begins blank;
+          known = known_over m basis.connex basis.transitive stops q.destination (layer_at size layer + run_begins rows size n s) (layer_at size layer + run_ends rows size n s) table before.end begins blank;
           no_dearer = λ t h. h;
+          chained = chained_over stops (label_in size table layer) (run_begins rows size n s) (run_ends rows size n s) before.arrivals (omega arith) (λ s' row inside low high. no_label s' row low);
           settled = λ runs may filled n' s' i' ln' li' low high.
-              subst (Holds m runs q rows stops (known_total before) table layer n' s' i') (sym (no_label s' (row_of rows n' i') low))
-              (of_the_run m q rows stops layer n s before basis ln (λ k t j. Holds m runs q rows stops (known_total before) table layer k t j None) n' s' i' ln' li' low high
-              (idle runs (known_total before) (λ i li. boards_nothing m rows stops basis runs q (known_total before) n s i ln li (Trail rows size table layer) layer (unused runs may i))));
+              subst (Holds m runs q rows stops (known_total before.end) table layer n' s' i') (sym (no_label s' (row_of rows n' i') low))
+              (of_the_run m q rows stops layer n s before basis ln (λ k t j. Holds m runs q rows stops (known_total before.end) table layer k t j None) n' s' i' ln' li' low high
+              (idle runs (known_total before.end) (λ i li. boards_nothing m rows stops basis runs q (known_total before.end) n s i ln li (Trail rows size table layer) layer (unused runs may i))));
         }
       where
         unused : (runs : Pairs) → RunAsked q (train_row n rows) s false runs → (i : ℕ) → (may_use runs q (train_row n rows) s && may_board (stop_at stops (row_of rows n i))) ≡ false

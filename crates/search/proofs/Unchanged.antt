@@ -1,7 +1,6 @@
 -- What the layers before a layer tell is the same in two tables that agree on them, and stays so where a cheaper end is known.
-use Rattle.std.proofs.Common.{◌≡◌, ℕ, zero, suc, ◌+◌, ◌*◌, ◌<◌, ◌≤◌, List, [], ◌∷◌, ◌++◌, length, get_or, is_some, Some, None, Option, sym, ap, ◌∙◌, subst, add_assoc, arith}
+use Rattle.std.proofs.Common.{◌≡◌, ℕ, zero, suc, ◌+◌, ◌*◌, ◌<◌, ◌≤◌, List, [], ◌∷◌, ◌++◌, length, get_or, Option, sym, ap, ◌∙◌, subst, add_assoc, arith}
 use Rattle.tariff.specs.Meaning.{Meaning}
-use Rattle.book.specs.Rules.{stop_at}
 use Rattle.book.specs.Trains.{trains_in}
 use Rattle.book.specs.declared.rows.StopRow.{StopRow}
 use Rattle.book.specs.declared.rows.TrainRow.{TrainRow}
@@ -14,16 +13,15 @@ use Rattle.connection.specs.declared.query.Query.{Query}
 use Rattle.connection.specs.declared.ride.Ride.{Ride}
 use Rattle.connection.specs.declared.ride.Shift.{Shift}
 use Rattle.connection.proofs.Settling.{settles_same, excused_more}
-use Rattle.search.specs.Chains.{Link, Chained, Linked}
+use Rattle.search.specs.Chains.{Chained}
 use Rattle.search.specs.Ends.{known_total, NoDearer}
 use Rattle.search.specs.Layers.{InOrder, row_of, Spot, Trail, Holds, Filled, UnchangedBelow}
 use Rattle.search.specs.Records.{blank, label_of}
 use Rattle.search.specs.Working.{number, layer_at, part_at, label_in}
-use Rattle.search.specs.Shifts.{on}
-use Rattle.search.specs.declared.by_shift.ByShift.{ByShift}
-use Rattle.search.specs.declared.chains.Chain.{Chain}
+use Rattle.search.specs.declared.chains.Arrivals.{Arrivals}
 use Rattle.search.specs.declared.ends.End.{End}
 use Rattle.search.specs.declared.record.WorkRecord.{WorkRecord}
+use Rattle.search.proofs.Chaining.{chained_same}
 use Rattle.search.proofs.Layering.{next_layer, layers_below}
 use Rattle.search.proofs.RowsAreTrains.{fits, place_below}
 
@@ -43,25 +41,9 @@ module _ {A : Type 0} where
       ap label_of (u (part_at size k s + row) (omega (arith, add_assoc (layer_at size k) (number s * size) row, place_below s size row h, next_layer size k, layers_below size (suc k) layer l)))
 
 -- ---- chains
-module _ {A : Type 0} (stops : List StopRow) (label label' : ℕ → Option (Label A)) (same : (j : ℕ) → j < length stops → label' j ≡ label j) where
-  link_same : (station a : ℕ) (b : Option ℕ) → Link stops label station a b → Link stops label' station a b
-  link_same station a None l =
-      record { onward = l.onward; passed_over = λ j x y s. same j y ∙ l.passed_over j x y s; arrives = tt }
-  link_same station a (Some row) l =
-      let there = l.arrives in
-      record {
-        onward = l.onward;
-        passed_over = λ j x y s. same j (omega (arith, there.inside)) ∙ l.passed_over j x y s;
-        arrives = record { inside = there.inside; here = there.here; labelled = ap is_some (same row there.inside) ∙ there.labelled };
-      }
-
-  chained_same : (heads nexts : List (Option ℕ)) → Chained stops label heads nexts → Chained stops label' heads nexts
-  chained_same heads nexts c =
-      record { first = λ st h. link_same st 0 (get_or heads st None) (c.first st h); next = λ j h s. link_same (stop_at stops j).station (suc j) (get_or nexts j None) (c.next j h (sym (ap is_some (same j h)) ∙ s)) }
-
-pub linked_same : {A : Type 0} (stops : List StopRow) (layer k : ℕ) (old new : List (WorkRecord A)) (a : ByShift Chain) → k < layer → UnchangedBelow (layer_at (length stops) layer) old new → Linked stops (label_in (length stops) old k) a → Linked stops (label_in (length stops) new k) a
-linked_same stops layer k old new a l u h s =
-    chained_same stops (label_in (length stops) old k s) (label_in (length stops) new k s) (λ j w. label_same (length stops) k layer s j old new l w u) (on a s).heads (on a s).nexts (h s)
+pub linked_same : {A : Type 0} (stops : List StopRow) (layer k : ℕ) (old new : List (WorkRecord A)) (a : Arrivals) → k < layer → UnchangedBelow (layer_at (length stops) layer) old new → Chained stops (label_in (length stops) old k) (3 * length stops) a → Chained stops (label_in (length stops) new k) (3 * length stops) a
+linked_same stops layer k old new a l u h =
+    chained_same stops (label_in (length stops) old k) (label_in (length stops) new k) (3 * length stops) (λ s row i w. label_same (length stops) k layer s row old new l i u) a h
 
 -- ---- trails
 module _ {A : Type 0} (m : Meaning A) (runs : Pairs) (q : Query) (rows : List TrainRow) (stops : List StopRow) (ok : InOrder rows stops) where

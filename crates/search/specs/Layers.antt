@@ -14,12 +14,14 @@ use Rattle.connection.specs.declared.query.Query.{Query}
 use Rattle.connection.specs.declared.ride.Ride.{Ride}
 use Rattle.connection.specs.declared.ride.Shift.{Shift}
 use Rattle.search.specs.Changing.{Timely}
+use Rattle.search.specs.Chains.{Chained}
 use Rattle.search.specs.Ends.{known_total, Known, NoDearer}
 use Rattle.search.specs.Records.{blank}
 use Rattle.search.specs.Working.{may_use, place, layer_at, label_in}
 use Rattle.search.specs.Shifts.{on}
 use Rattle.search.specs.declared.by_shift.ByShift.{ByShift}
 use Rattle.search.specs.declared.ends.End.{End}
+use Rattle.search.specs.declared.reached.Reached.{Reached}
 use Rattle.search.specs.declared.record.WorkRecord.{WorkRecord}
 
 -- ---- the rows in use
@@ -90,14 +92,15 @@ module _ {A : Type 0} (m : Meaning A) (q : Query) (rows : List TrainRow) (stops 
       → Holds m runs q rows stops known old k n s i (label_in (length stops) new k s (row_of rows n i))
 
   -- the layer k is filled from the place x up to the place y, where the calendar says what May tells; found is false only where no label
-  -- is there; before and after are the cheapest ends that are known
-  pub record Fills (k : ℕ) (May : Pairs → Type 0) (old new : List (WorkRecord A)) (x y : ℕ) (found : Bool) (before after : Option (End A)) : Type 0 where
+  -- is there; before and after are what is reached
+  pub record Fills (k : ℕ) (May : Pairs → Type 0) (old new : List (WorkRecord A)) (x y : ℕ) (found : Bool) (before after : Reached A) : Type 0 where
     pub unchanged : UnchangedBelow (layer_at (length stops) k + x) old new
     pub blank : BlankFrom (layer_at (length stops) k + x) old → BlankFrom (layer_at (length stops) k + y) new
     pub nothing : found ≡ false → NoLabelBetween rows (length stops) new k x y
-    pub known : Known stops old q.destination (layer_at (length stops) k + x) m before → Known stops new q.destination (layer_at (length stops) k + y) m after
-    pub no_dearer : NoDearer m before after
-    pub settled : (runs : Pairs) → May runs → Filled m runs q rows stops (known_total before) old k → SettledBetween runs (known_total after) old new k x y
+    pub known : Known stops old q.destination (layer_at (length stops) k + x) m before.end → Known stops new q.destination (layer_at (length stops) k + y) m after.end
+    pub no_dearer : NoDearer m before.end after.end
+    pub chained : Chained stops (label_in (length stops) old k) x before.arrivals → Chained stops (label_in (length stops) new k) y after.arrivals
+    pub settled : (runs : Pairs) → May runs → Filled m runs q rows stops (known_total before.end) old k → SettledBetween runs (known_total after.end) old new k x y
 
 -- the places where a run begins and ends
 abbrev pub run_begins : List TrainRow → ℕ → ℕ → Shift → ℕ

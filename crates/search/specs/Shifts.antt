@@ -1,8 +1,6 @@
 -- What there is for each of the three shifts.
 use Rattle.connection.specs.declared.ride.Shift.{Shift}
 use Rattle.connection.specs.declared.ride.Shift.TheVariants.{DayBefore, SameDay, DayAfter}
-use Rattle.std.specs.Prelude.{Bool, Option}
-use Rattle.connection.specs.Choosing.{cheaper}
 use Rattle.search.specs.declared.by_shift.ByShift.{ByShift}
 
 -- the one for that shift
@@ -10,7 +8,3 @@ abbrev pub on : {T : Type 0} → ByShift T → Shift → T
 on each DayBefore = each.day_before
 on each SameDay = each.same_day
 on each DayAfter = each.day_after
-
--- the cheapest of what there is for the three
-abbrev pub of_shifts : {L : Type 0} → (L → L → Bool) → (Shift → Option L) → Option L
-of_shifts at_most each = cheaper at_most (each DayBefore) (cheaper at_most (each SameDay) (each DayAfter))

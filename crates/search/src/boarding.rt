@@ -13,13 +13,13 @@ ghost use Rattle.connection.specs.Prices.{stretch};
 ghost use Rattle.connection.specs.Rides.{arrival, departure, may_alight, can_catch};
 ghost use Rattle.connection.specs.Settled.{no_dearer, SettlesBoarding};
 ghost use Rattle.connection.specs.Ways.{Best};
-ghost use Rattle.search.specs.Changing.{changed, ChangesOn, Changes};
-ghost use Rattle.search.specs.Chains.{Linked, LinkedBefore};
+ghost use Rattle.search.specs.Changing.{changed, Changes};
+ghost use Rattle.search.specs.Chains.{Chained, LinkedBefore};
 ghost use Rattle.search.specs.Layers.{Trail, Filled, RunAsked};
 ghost use Rattle.search.specs.Working.{place as place_of, label_in, HasLayers};
 
 use crate::chains::Arrivals;
-use crate::choosing::{cheaper, cheapest_of_shifts};
+use crate::choosing::cheaper;
 use crate::inquiry::Inquiry;
 use crate::layer::Layer;
 use crate::minutes::wait;
@@ -95,37 +95,18 @@ impl<P: Tariff> Inquiry<'_, P> {
     ) -> Option<Label<P::Total>>
         requires within { HasLayers (length self.now.stops.now) work.now (layer.number + 1) }
         requires known { onward.station ≤ last_station }
-        requires linked { Linked self.now.stops.now (label_in (length self.now.stops.now) work.now layer.number) arrivals.now }
+        requires linked { Chained self.now.stops.now (label_in (length self.now.stops.now) work.now layer.number) (3 * length self.now.stops.now) arrivals.now }
         ensures best { Best (no_dearer (P.Tariff.meaning self.now.tariff.now)) (Changes (P.Tariff.meaning self.now.tariff.now) self.now.stops.now (label_in (length self.now.stops.now) work.now layer.number) onward.station onward.minute onward.board) result }
     {
-        cheapest_of_shifts(self.tariff, |shift| {
-            self.best_change_on(work, layer, arrivals, shift, onward)
-        })
-    }
-
-    // The best of these changes from runs of one shift.
-    fn best_change_on(
-        &self,
-        work: &[WorkRecord<P::Total>],
-        layer: Layer,
-        arrivals: &Arrivals,
-        shift: Shift,
-        onward: Onward,
-    ) -> Option<Label<P::Total>>
-        requires within { HasLayers (length self.now.stops.now) work.now (layer.number + 1) }
-        requires known { onward.station ≤ last_station }
-        requires linked { Linked self.now.stops.now (label_in (length self.now.stops.now) work.now layer.number) arrivals.now }
-        ensures best { Best (no_dearer (P.Tariff.meaning self.now.tariff.now)) (ChangesOn (P.Tariff.meaning self.now.tariff.now) self.now.stops.now (label_in (length self.now.stops.now) work.now layer.number) onward.station onward.minute onward.board shift) result }
-    {
-        let at = self.part_at(layer, shift);
-        let chain = arrivals.on(shift);
+        let at = self.layer_at(layer);
         let mut best = None;
-        let mut next = chain.heads[onward.station as usize];
-        while let Some(row) = next {
-            let row = row as usize;
-            let label = label_at(work, at + row);
+        let mut next = arrivals.heads[onward.station as usize];
+        while let Some(place) = next {
+            let place = place as usize;
+            let (shift, row) = self.shift_and_row(place);
+            let label = label_at(work, at + place);
             best = cheaper(self.tariff, best, self.change(row, shift, label, onward));
-            next = chain.nexts[row];
+            next = arrivals.nexts[place];
         }
         best
     }

@@ -1,71 +1,45 @@
 // The labels of a layer by station, so that who boards a train looks only at arrivals of its station.
 //
-//     heads: station 2 -> row 1, station 3 -> row 2, ..       the first row of the station with a label
-//     nexts: row 2 -> row 4, ..                               the next row of the same station with one
-ghost use Rattle.std.specs.Prelude.{◌≡◌, ◌+◌, ◌*◌, ◌≤◌, length};
-ghost use Rattle.search.specs.Chains.{Chained, Linked, no_chain, no_arrivals};
-ghost use Rattle.search.specs.Working.{label_in, HasLayers};
+//     heads: station 2 -> place 4, station 3 -> place 7, ..      the last place of the station with a label
+//     nexts: place 4 -> place 1, ..                              the one of the same station ahead of it
+//
+// A layer is filled from its first place on, so each label that is written becomes the first of its chain.
+ghost use Rattle.std.specs.Prelude.{◌≡◌, ◌<◌, ◌≤◌};
+ghost use Rattle.book.specs.Limits.{last_station};
+ghost use Rattle.search.specs.Chains.{no_arrivals, cleared, with_arrival};
 
-use crate::by_shift::ByShift;
-use crate::inquiry::Inquiry;
-use crate::layer::Layer;
-use crate::record::WorkRecord;
-use crate::table::label_at;
-use connection::ride::Shift;
-use tariff::Tariff;
-
-// One part of a layer, in arrays and by row numbers, since the search allocates nothing.
+// In arrays and by the number of a place, since the search allocates nothing.
 #[derive(Drop)]
-pub struct Chain {
+pub struct Arrivals {
     pub heads: [Option<u16>; 1024],
-    pub nexts: [Option<u16>; 4096],
+    pub nexts: [Option<u16>; 12288],
 }
 
-// All parts of a layer.
-pub type Arrivals = ByShift<Chain>;
-
-impl Chain {
+impl Arrivals {
     // Nobody has arrived anywhere.
-    fn empty() -> Chain
-        ensures { result ≡ no_chain }
+    pub fn none() -> Arrivals
+        ensures { result ≡ no_arrivals }
     {
-        Chain {
+        Arrivals {
             heads: [None; 1024],
-            nexts: [None; 4096],
+            nexts: [None; 12288],
         }
     }
-}
 
-// Ahead of the first layer nobody has arrived anywhere. A layer knows that it is the first, so this need be no Option.
-pub fn no_arrivals() -> Arrivals
-    ensures { result ≡ no_arrivals }
-{
-    ByShift::each(|_| Chain::empty())
-}
-
-impl<P: Tariff> Inquiry<'_, P> {
-    // The labels of that layer.
-    pub fn arrivals(&self, work: &[WorkRecord<P::Total>], layer: Layer) -> Arrivals
-        requires within { HasLayers (length self.now.stops.now) work.now (layer.number + 1) }
-        ensures { Linked self.now.stops.now (label_in (length self.now.stops.now) work.now layer.number) result }
+    // Takes the place, behind all that were taken, as one with a label of the station.
+    pub fn add(&mut self, station: u16, place: usize)
+        requires known { station ≤ last_station }
+        requires placed { place < 12288 }
+        ensures { self.new ≡ with_arrival self.old station place }
     {
-        ByShift::each(|shift| self.chained(work, layer, shift))
+        self.nexts[place] = self.heads[station as usize];
+        self.heads[station as usize] = Some(place as u16);
     }
 
-    // The labels of its part for that shift.
-    fn chained(&self, work: &[WorkRecord<P::Total>], layer: Layer, shift: Shift) -> Chain
-        requires within { HasLayers (length self.now.stops.now) work.now (layer.number + 1) }
-        ensures { Chained self.now.stops.now (label_in (length self.now.stops.now) work.now layer.number shift) result.heads result.nexts }
+    // Forgets all places.
+    pub fn clear(&mut self)
+        ensures { self.new ≡ cleared self.old }
     {
-        let at = self.part_at(layer, shift);
-        let mut chain = Chain::empty();
-        for (row, stop) in self.stops.iter().enumerate().rev() {
-            if label_at(work, at + row).is_some() {
-                let station = stop.station as usize;
-                chain.nexts[row] = chain.heads[station];
-                chain.heads[station] = Some(row as u16);
-            }
-        }
-        chain
+        self.heads = [None; 1024];
     }
 }

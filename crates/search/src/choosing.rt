@@ -1,13 +1,9 @@
-// The cheaper of two that have a total, the cheapest of three shifts, and a label with a step more.
-ghost use Rattle.std.specs.Prelude.{◌≡◌, Option};
+// The cheaper of two that have a total, and a label with a step more.
+ghost use Rattle.std.specs.Prelude.{◌≡◌};
 ghost use Rattle.connection.specs.Choosing.{mapped, cheaper};
-ghost use Rattle.connection.specs.declared.ride.Shift.{Shift as AShift};
-ghost use Rattle.search.specs.Shifts.{of_shifts};
 ghost use Rattle.search.specs.Working.{costs_at_most, stepped};
 
-use crate::by_shift::ByShift;
 use connection::label::Label;
-use connection::ride::Shift;
 use tariff::Tariff;
 use tariff::step::Step;
 
@@ -41,19 +37,6 @@ pub fn cheaper<P: Tariff, L: Priced<P::Total>>(tariff: &P, a: Option<L>, b: Opti
         }
         _ => a.or(b),
     }
-}
-
-// The cheapest of what is found for each shift.
-pub fn cheapest_of_shifts<P: Tariff, L: Priced<P::Total>, F: Fn(Shift) -> Option<L>>(
-    tariff: &P,
-    find: F,
-) -> Option<L>
-    requires { F.IsAlwaysCallable find }
-    ensures { (found : AShift → Option L) × ((s : AShift) → F.post find s (found s)) × (result ≡ of_shifts (costs_at_most (P.Tariff.meaning tariff.now) L.total_of) found) }
-{
-    let found = ByShift::each(find);
-    let later = cheaper(tariff, found.same_day, found.day_after);
-    cheaper(tariff, found.day_before, later)
 }
 
 // The label of who goes on by the step.

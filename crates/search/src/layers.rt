@@ -5,13 +5,15 @@ ghost use Rattle.search.specs.Layers.{Fills, ShiftAsked, Asked, AllFilled, Blank
 ghost use Rattle.search.specs.Working.{place, layer_at, HasLayers};
 
 use crate::asking::Usable;
-use crate::chains::{Arrivals, no_arrivals};
+use crate::chains::Arrivals;
 use crate::ends::End;
 use crate::inquiry::Inquiry;
 use crate::layer::Layer;
+use crate::reached::Reached;
 use crate::record::WorkRecord;
 use crate::run::Run;
 use connection::ride::Shift;
+use std::mem;
 use tariff::Tariff;
 
 // The work table, a layer and the arrivals ahead of it stay three parameters, and that they belong together stays with each
@@ -30,35 +32,39 @@ impl<P: Tariff> Inquiry<'_, P> {
         ensures filled { AllFilled (P.Tariff.meaning self.now.tariff.now) self.now.query.now self.now.trains.now self.now.stops.now (Asked self.now.query.now self.now.trains.now usable.now) work.new result.1 result.0 }
     {
         let most = self.query.changes as usize + 1;
-        let mut known = None;
-        let mut arrivals = no_arrivals();
+        let mut before = Arrivals::none();
+        let mut reached = Reached {
+            end: None,
+            arrivals: Arrivals::none(),
+        };
         for number in 0..most {
             let layer = Layer { number };
-            if !self.fill_layer(work, layer, &arrivals, usable, &mut known) {
-                return (number + 1, known);
+            if !self.fill_layer(work, layer, &before, usable, &mut reached) {
+                return (number + 1, reached.end);
             }
-            arrivals = self.arrivals(work, layer);
+            mem::swap(&mut before, &mut reached.arrivals);
+            reached.arrivals.clear();
         }
-        (most, known)
+        (most, reached.end)
     }
 
-    // Writes the labels of a layer, and keeps the cheapest end that is known. Where it says no, there is no label.
+    // Writes the labels of a layer, and what is reached by them. Where it says no, there is no label.
     fn fill_layer(
         &self,
         work: &mut [WorkRecord<P::Total>],
         layer: Layer,
         arrivals: &Arrivals,
         usable: &Usable,
-        known: &mut Option<End<P::Total>>,
+        reached: &mut Reached<P::Total>,
     ) -> bool
         requires within { HasLayers (length self.now.stops.now) work.old (layer.number + 1) }
         requires linked { LinkedBefore self.now.stops.now work.old layer.number arrivals.now }
         requires blank { BlankFrom (layer_at (length self.now.stops.now) layer.number) work.old }
-        ensures { Fills (P.Tariff.meaning self.now.tariff.now) self.now.query.now self.now.trains.now self.now.stops.now layer.number (Asked self.now.query.now self.now.trains.now usable.now) work.old work.new 0 (3 * length self.now.stops.now) result known.old known.new }
+        ensures { Fills (P.Tariff.meaning self.now.tariff.now) self.now.query.now self.now.trains.now self.now.stops.now layer.number (Asked self.now.query.now self.now.trains.now usable.now) work.old work.new 0 (3 * length self.now.stops.now) result reached.old reached.new }
     {
         let mut found = false;
         for shift in Shift::ALL {
-            found |= self.fill_shift(work, layer, arrivals, usable.on(shift), shift, known);
+            found |= self.fill_shift(work, layer, arrivals, usable.on(shift), shift, reached);
         }
         found
     }
@@ -71,19 +77,19 @@ impl<P: Tariff> Inquiry<'_, P> {
         arrivals: &Arrivals,
         usable: &[bool],
         shift: Shift,
-        known: &mut Option<End<P::Total>>,
+        reached: &mut Reached<P::Total>,
     ) -> bool
         requires within { HasLayers (length self.now.stops.now) work.old (layer.number + 1) }
         requires linked { LinkedBefore self.now.stops.now work.old layer.number arrivals.now }
         requires each { length self.now.trains.now ≤ length usable.now }
         requires blank { BlankFrom (layer_at (length self.now.stops.now) layer.number + place (length self.now.stops.now) shift 0) work.old }
-        ensures { Fills (P.Tariff.meaning self.now.tariff.now) self.now.query.now self.now.trains.now self.now.stops.now layer.number (ShiftAsked self.now.query.now self.now.trains.now shift usable.now) work.old work.new (place (length self.now.stops.now) shift 0) (place (length self.now.stops.now) shift (length self.now.stops.now)) result known.old known.new }
+        ensures { Fills (P.Tariff.meaning self.now.tariff.now) self.now.query.now self.now.trains.now self.now.stops.now layer.number (ShiftAsked self.now.query.now self.now.trains.now shift usable.now) work.old work.new (place (length self.now.stops.now) shift 0) (place (length self.now.stops.now) shift (length self.now.stops.now)) result reached.old reached.new }
     {
         let mut found = false;
         for (train, usable) in usable[..self.trains.len()].iter().enumerate() {
             if *usable {
                 let run = Run { train, shift };
-                found |= self.fill_run(work, layer, arrivals, run, known);
+                found |= self.fill_run(work, layer, arrivals, run, reached);
             }
         }
         found

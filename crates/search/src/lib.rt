@@ -32,6 +32,7 @@ mod judging;
 mod layer;
 mod layers;
 mod minutes;
+mod reached;
 pub mod record;
 pub mod refusal;
 mod riding;

@@ -1,10 +1,11 @@
 // Riding a run from stop to stop, and the labels of who is on board.
 ghost use Rattle.std.specs.Prelude.{◌≡◌, ◌+◌, ◌-◌, ◌*◌, ◌<◌, ◌≤◌, true, length, slice_set};
 ghost use Rattle.book.specs.Answers.{train_row};
+ghost use Rattle.book.specs.Limits.{last_station};
 ghost use Rattle.connection.specs.Choosing.{mapped, cheaper as cheaper_of};
 ghost use Rattle.connection.specs.Prices.{hop as hop_of, stand as stand_of};
 ghost use Rattle.connection.specs.Settled.{extended, no_dearer};
-ghost use Rattle.search.specs.Chains.{LinkedBefore};
+ghost use Rattle.search.specs.Chains.{LinkedBefore, arrived};
 ghost use Rattle.search.specs.Ends.{ends_no_dearer, known_total, is_end, end_here};
 ghost use Rattle.search.specs.Layers.{Fills, RunAsked, BlankFrom, run_begins, run_ends};
 ghost use Rattle.search.specs.Records.{record_of};
@@ -16,6 +17,7 @@ use crate::ends::End;
 use crate::inquiry::Inquiry;
 use crate::layer::Layer;
 use crate::minutes::{hop, stand};
+use crate::reached::Reached;
 use crate::record::WorkRecord;
 use crate::run::Run;
 use crate::table::{label_at, put_label};
@@ -24,21 +26,21 @@ use connection::label::Label;
 use tariff::Tariff;
 
 impl<P: Tariff> Inquiry<'_, P> {
-    // Writes the labels of the run in the layer, and keeps the cheapest end that is known. The layer's records from the run's
-    // first on are blank, so no other is written. Where it says no, there is no label.
+    // Writes the labels of the run in the layer, and what is reached by them. The layer's records from the run's first on are
+    // blank, so no other is written. Where it says no, there is no label.
     pub fn fill_run(
         &self,
         work: &mut [WorkRecord<P::Total>],
         layer: Layer,
         arrivals: &Arrivals,
         run: Run,
-        known: &mut Option<End<P::Total>>,
+        reached: &mut Reached<P::Total>,
     ) -> bool
         requires within { HasLayers (length self.now.stops.now) work.old (layer.number + 1) }
         requires linked { LinkedBefore self.now.stops.now work.old layer.number arrivals.now }
         requires in_force { run.train < length self.now.trains.now }
         requires blank { BlankFrom (layer_at (length self.now.stops.now) layer.number + run_begins self.now.trains.now (length self.now.stops.now) run.train run.shift) work.old }
-        ensures { Fills (P.Tariff.meaning self.now.tariff.now) self.now.query.now self.now.trains.now self.now.stops.now layer.number (RunAsked self.now.query.now (train_row run.train self.now.trains.now) run.shift true) work.old work.new (run_begins self.now.trains.now (length self.now.stops.now) run.train run.shift) (run_ends self.now.trains.now (length self.now.stops.now) run.train run.shift) result known.old known.new }
+        ensures { Fills (P.Tariff.meaning self.now.tariff.now) self.now.query.now self.now.trains.now self.now.stops.now layer.number (RunAsked self.now.query.now (train_row run.train self.now.trains.now) run.shift true) work.old work.new (run_begins self.now.trains.now (length self.now.stops.now) run.train run.shift) (run_ends self.now.trains.now (length self.now.stops.now) run.train run.shift) result reached.old reached.new }
     {
         let train = self.trains[run.train];
         let first = train.first as usize;
@@ -47,8 +49,8 @@ impl<P: Tariff> Inquiry<'_, P> {
         let mut found = false;
         let mut aboard = None;
         for (i, stop) in stops.iter().enumerate() {
-            aboard = self.if_worth_following(work, layer, place + i, *known, aboard);
-            self.keep(work, layer, place + i, stop, aboard, known);
+            aboard = self.if_worth_following(work, layer, place + i, reached.end, aboard);
+            self.keep(work, layer, place + i, stop, aboard, reached);
             found |= aboard.is_some();
             if let Some(next) = stops.get(i + 1) {
                 let boarded = self.boarding(work, layer, arrivals, run, i);
@@ -58,7 +60,7 @@ impl<P: Tariff> Inquiry<'_, P> {
         found
     }
 
-    // Writes the label at the stop, if there is one, in its record, which is blank, and keeps the cheapest end that is known.
+    // Writes the label at the stop, if there is one, in its record, which is blank, and takes it as reached.
     fn keep(
         &self,
         work: &mut [WorkRecord<P::Total>],
@@ -66,17 +68,20 @@ impl<P: Tariff> Inquiry<'_, P> {
         place: usize,
         stop: &StopRow,
         label: Option<Label<P::Total>>,
-        known: &mut Option<End<P::Total>>,
+        reached: &mut Reached<P::Total>,
     )
         requires within { HasLayers (length self.now.stops.now) work.old (layer.number + 1) }
         requires placed { place < 3 * length self.now.stops.now }
+        requires known { stop.now.station ≤ last_station }
         requires blank { BlankFrom (layer_at (length self.now.stops.now) layer.number + place) work.old }
         ensures work { work.new ≡ slice_set work.old (layer_at (length self.now.stops.now) layer.number + place) (record_of label) }
-        ensures known { known.new ≡ cheaper_of (ends_no_dearer (P.Tariff.meaning self.now.tariff.now)) known.old (end_here (is_end stop.now self.now.query.now.destination) layer.number place label) }
+        ensures end { reached.new.end ≡ cheaper_of (ends_no_dearer (P.Tariff.meaning self.now.tariff.now)) reached.old.end (end_here (is_end stop.now self.now.query.now.destination) layer.number place label) }
+        ensures arrivals { reached.new.arrivals ≡ arrived reached.old.arrivals stop.now.station place label }
     {
         if let Some(label) = label {
             put_label(work, self.layer_at(layer) + place, label);
-            *known = self.with_label(*known, stop, layer, place, label);
+            reached.end = self.with_label(reached.end, stop, layer, place, label);
+            reached.arrivals.add(stop.station, place);
         }
     }
 

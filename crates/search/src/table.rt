@@ -1,7 +1,7 @@
 // Where a record stands in the work table, and the label that it holds.
 ghost use Rattle.std.specs.Prelude.{◌≡◌, ◌+◌, ◌*◌, ◌<◌, ◌≤◌, length, Some, slice_set};
 ghost use Rattle.search.specs.Records.{record_of};
-ghost use Rattle.search.specs.Working.{number as number_of, place, layer_at, part_at, label_at};
+ghost use Rattle.search.specs.Working.{number as number_of, place as place_of, layer_at, part_at, label_at};
 
 use crate::inquiry::Inquiry;
 use crate::layer::Layer;
@@ -27,9 +27,25 @@ impl<P> Inquiry<'_, P> {
     // The place in a layer of the row in the part for that shift.
     pub fn place(&self, shift: Shift, row: usize) -> usize
         requires inside { row ≤ length self.now.stops.now }
-        ensures { result ≡ place (length self.now.stops.now) shift row }
+        ensures { result ≡ place_of (length self.now.stops.now) shift row }
     {
         number(shift) * self.stops.len() + row
+    }
+
+    // Which part of a layer has the place, and the row of the stop table that it stands for.
+    pub fn shift_and_row(&self, place: usize) -> (Shift, usize)
+        requires inside { place < 3 * length self.now.stops.now }
+        ensures is { place ≡ place_of (length self.now.stops.now) result.0 result.1 }
+        ensures inside { result.1 < length self.now.stops.now }
+    {
+        let size = self.stops.len();
+        if place < size {
+            (Shift::DayBefore, place)
+        } else if place < 2 * size {
+            (Shift::SameDay, place - size)
+        } else {
+            (Shift::DayAfter, place - 2 * size)
+        }
     }
 
     // Where the layer begins in the work table.

@@ -3,12 +3,12 @@ ghost use Rattle.std.specs.Prelude.{◌≡◌, ℕ, suc, ◌+◌, ◌*◌, ◌<�
 ghost use Rattle.book.specs.Answers.{train_row};
 ghost use Rattle.connection.specs.declared.ride.Ride.{Ride as ARide};
 ghost use Rattle.search.specs.Layers.{Spot, Trail, row_of};
-ghost use Rattle.search.specs.Working.{place as place_of, HasLayers};
+ghost use Rattle.search.specs.Working.{HasLayers};
 
 use crate::inquiry::Inquiry;
 use crate::layer::Layer;
 use crate::record::WorkRecord;
-use connection::ride::{Ride, Shift};
+use connection::ride::Ride;
 use tariff::Tariff;
 
 impl<P: Tariff> Inquiry<'_, P> {
@@ -46,22 +46,6 @@ impl<P: Tariff> Inquiry<'_, P> {
             shift,
             board,
             alight,
-        }
-    }
-
-    // Which part of a layer has the place, and the row of the stop table that it stands for.
-    fn shift_and_row(&self, place: usize) -> (Shift, usize)
-        requires inside { place < 3 * length self.now.stops.now }
-        ensures is { place ≡ place_of (length self.now.stops.now) result.0 result.1 }
-        ensures inside { result.1 < length self.now.stops.now }
-    {
-        let size = self.stops.len();
-        if place < size {
-            (Shift::DayBefore, place)
-        } else if place < 2 * size {
-            (Shift::SameDay, place - size)
-        } else {
-            (Shift::DayAfter, place - 2 * size)
         }
     }
 

@@ -1,10 +1,10 @@
-use Rattle.std.proofs.Common.{◌≡◌, ℕ, ◌+◌, ◌-◌, ◌<◌, Bool, true, false, ◌&&◌, length, sym, refl, ◌∙◌, subst, ap₂, arith}
+use Rattle.std.proofs.Common.{◌≡◌, ℕ, ◌+◌, ◌-◌, ◌*◌, ◌<◌, Bool, true, false, ◌&&◌, length, sym, refl, ◌∙◌, subst, ap₂, arith}
 use Rattle.book.specs.Answers.{train_row}
 use Rattle.book.specs.Rules.{stop_at}
 use Rattle.book.specs.Trains.{trains_in}
 use Rattle.connection.specs.Rides.{may_board}
 use Rattle.connection.specs.Settled.{SettlesBoarding}
-use Rattle.search.specs.Chains.{Linked}
+use Rattle.search.specs.Chains.{Chained}
 use Rattle.search.specs.Layers.{row_of, Trail}
 use Rattle.search.specs.Working.{may_use, label_in}
 use Rattle.search.proofs.Basis.{Basis, timetable_of}
@@ -75,7 +75,7 @@ best_change-requires-clause-linked g c =
     let next : c.in-Some.before.number + 1 ≡ a.layer.number = c.in-Some.ensures in
     let e : a.layer.number - 1 ≡ c.in-Some.before.number = omega arith in
     let later : 0 < a.layer.number = omega arith in
-    subst (λ (k : ℕ). Linked a.self.now.stops.now (label_in size a.work.now k) a.arrivals.now) e (c.requires.linked later)
+    subst (λ (k : ℕ). Chained a.self.now.stops.now (label_in size a.work.now k) (3 * size) a.arrivals.now) e (c.requires.linked later)
 
 pub returns : goal.returns
 returns g c =

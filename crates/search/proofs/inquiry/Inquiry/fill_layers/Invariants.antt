@@ -1,16 +1,19 @@
-use Rattle.std.proofs.Common.{◌-◌, ◌<◌, length}
+use Rattle.std.proofs.Common.{◌≡◌, length, replicate, None}
 use Rattle.calendar.specs.Pairs.{Pairs}
-use Rattle.search.specs.Chains.{Linked}
+use Rattle.search.specs.Chains.{LinkedBefore}
 use Rattle.search.specs.Ends.{known_total, Known}
 use Rattle.search.specs.Layers.{Filled, Asked, BlankFrom}
-use Rattle.search.specs.Working.{layer_at, label_in}
+use Rattle.search.specs.Working.{layer_at}
 use Rattle.search.proofs.inquiry.Inquiry.fill_layers.Given as goal
 
 abbrev pub invariant-loop-number : goal.invariant-loop-number
 invariant-loop-number g l =
     record {
       blank : BlankFrom (layer_at (length l.self.stops.now) l.number) l.work;
-      known : Known l.self.stops.now l.work l.self.query.now.destination (layer_at (length l.self.stops.now) l.number) (g.P.Tariff.meaning l.self.tariff.now) l.known;
-      filled : (runs : Pairs) → Asked l.self.query.now l.self.trains.now l.usable runs → Filled (g.P.Tariff.meaning l.self.tariff.now) runs l.self.query.now l.self.trains.now l.self.stops.now (known_total l.known) l.work l.number;
-      linked : 0 < l.number → Linked l.self.stops.now (label_in (length l.self.stops.now) l.work (l.number - 1)) l.arrivals;
+      known : Known l.self.stops.now l.work l.self.query.now.destination (layer_at (length l.self.stops.now) l.number) (g.P.Tariff.meaning l.self.tariff.now) l.reached.end;
+      filled : (runs : Pairs) → Asked l.self.query.now l.self.trains.now l.usable runs → Filled (g.P.Tariff.meaning l.self.tariff.now) runs l.self.query.now l.self.trains.now l.self.stops.now (known_total l.reached.end) l.work l.number;
+      linked : LinkedBefore l.self.stops.now l.work l.number l.before;
+      fresh : l.reached.arrivals.heads ≡ replicate 1024 None;
+      long : length l.reached.arrivals.nexts ≡ 12288;
+      long_before : length l.before.nexts ≡ 12288;
     }

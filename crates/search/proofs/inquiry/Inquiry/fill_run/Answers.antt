@@ -5,6 +5,7 @@ use Rattle.book.specs.Answers.{train_row}
 use Rattle.book.specs.Rules.{stop_at}
 use Rattle.book.specs.declared.rows.StopRow.{StopRow}
 use Rattle.connection.specs.Choosing.{cheaper as cheaper_of}
+use Rattle.search.specs.Chains.{arrived}
 use Rattle.search.specs.Ends.{ends_no_dearer, known_total, is_end, end_here}
 use Rattle.search.specs.Layers.{row_of}
 use Rattle.search.specs.Records.{record_of}
@@ -37,7 +38,7 @@ loop-i-init g c =
     let laws = g.met.P.Tariff in
     let m = g.P.Tariff.meaning t in
     let basis : Basis m s.trains.now s.stops.now = record { connex = laws.connex t; transitive = laws.transitive t; grows = laws.grows t; keeps = laws.keeps t; starts = laws.starts t; counts = laws.counts t; timetable = timetable_of s } in
-    filled_none m s.query.now s.trains.now s.stops.now a.layer.number a.run.train a.run.shift a.known.now basis c.requires.in_force a.work.now c.requires.blank
+    filled_none m s.query.now s.trains.now s.stops.now a.layer.number a.run.train a.run.shift a.reached.now basis c.requires.in_force a.work.now c.requires.blank
 
 pub boarding-boarded-requires-clause-linked : goal.boarding-boarded-requires-clause-linked
 boarding-boarded-requires-clause-linked g c later =
@@ -78,17 +79,18 @@ loop-i-preserved g c =
     let room : part_at size layer a.run.shift + row.first + l.i < length l.work = omega (arith, below) in
     let spot = ap (λ x. x + l.i) c.place-place.ensures ∙ add_assoc (number a.run.shift * size) row.first l.i in
     let stop_is = ap (λ x. stop_at x l.i) c.stops-stops.ensures ∙ own_stop s.trains.now s.stops.now s.ordered n l.i li in
-    let ends = λ (stop : StopRow) (x : ℕ). cheaper_of (ends_no_dearer m) l.known (end_here (is_end stop s.query.now.destination) layer x c.if_worth_following-aboard.result) in
-    let known = c.keep.ensures.known ∙ ap₂ ends stop_is spot in
-    let kept = c.if_worth_following-aboard.ensures ∙ ap (λ x. if_worth_following m size l.work x (known_total l.known) layer l.aboard) spot in
+    let ends = λ (stop : StopRow) (x : ℕ). cheaper_of (ends_no_dearer m) l.reached.end (end_here (is_end stop s.query.now.destination) layer x c.if_worth_following-aboard.result) in
+    let arrivals = c.keep.ensures.arrivals ∙ ap₂ (λ (stop : StopRow) (x : ℕ). arrived l.reached.arrivals stop.station x c.if_worth_following-aboard.result) stop_is spot in
+    let known = c.keep.ensures.end ∙ ap₂ ends stop_is spot in
+    let kept = c.if_worth_following-aboard.ensures ∙ ap (λ x. if_worth_following m size l.work x (known_total l.reached.end) layer l.aboard) spot in
     let at : layer_at (length s.stops.now) a.layer.number + (c.place-place.result + l.i) ≡ part_at (length s.stops.now) a.layer.number a.run.shift + row.first + l.i = omega (arith, c.place-place.ensures) in
     let next = c.keep.ensures.work ∙ ap (λ x. set l.work x (record_of c.if_worth_following-aboard.result)) at in
-    filled_more m s.query.now s.trains.now s.stops.now layer n a.run.shift a.known.now basis c.requires.in_force a.work.now l.work l.i l.found l.aboard c.if_worth_following-aboard.result l.known c.keep.new.known l.invariant li room kept c.keep.new.work next known (l.found || c.is_some-found.result) c.match-get.aboard (ap (λ b. l.found || b) c.is_some-found.ensures)
+    filled_more m s.query.now s.trains.now s.stops.now layer n a.run.shift a.reached.now basis c.requires.in_force a.work.now l.work l.i l.found l.aboard c.if_worth_following-aboard.result l.reached c.keep.new.reached l.invariant li room kept c.keep.new.work next known arrivals (l.found || c.is_some-found.result) c.match-get.aboard (ap (λ b. l.found || b) c.is_some-found.ensures)
     (elim c.match-get.branch [
       | in-Some w ↦
           let on : l.i + 1 < length c.stops-stops.result.now = ltb-true _ _ (sym w.in-Some.ensures.lookup.0) in
           let there_is = get_or_read c.stops-stops.result.now (l.i + 1) _ on w.in-Some.ensures.lookup.1 _ ∙ ap (λ x. stop_at x (l.i + 1)) c.stops-stops.ensures ∙ own_stop s.trains.now s.stops.now s.ordered n (l.i + 1) (omega arith) in
-          comes_next m s.query.now s.trains.now s.stops.now layer n a.run.shift a.known.now basis c.requires.in_force a.work.now l.work l.i l.found l.aboard c.if_worth_following-aboard.result l.known c.keep.new.known l.invariant li room kept c.keep.new.work next known _ w.in-Some.next.now w.boarding-boarded.result c.match-get.aboard stop_is there_is (omega arith) w.boarding-boarded.ensures.settles (w.aboard-is ∙ w.ride_on-aboard.ensures)
+          comes_next m s.query.now s.trains.now s.stops.now layer n a.run.shift a.reached.now basis c.requires.in_force a.work.now l.work l.i l.found l.aboard c.if_worth_following-aboard.result l.reached c.keep.new.reached l.invariant li room kept c.keep.new.work next known arrivals _ w.in-Some.next.now w.boarding-boarded.result c.match-get.aboard stop_is there_is (omega arith) w.boarding-boarded.ensures.settles (w.aboard-is ∙ w.ride_on-aboard.ensures)
       | in_default w ↦ λ runs may filled more. let none : length c.stops-stops.result.now ≤ l.i + 1 = ltb-false _ _ (sym w.in_default.ensures.lookup.0) in absurd (omega arith)
     ])
 
@@ -104,5 +106,5 @@ returns g c =
     let l = c.loop-i in
     let long : length c.stops-stops.result.now ≡ (train_row n s.trains.now).count = ap length c.stops-stops.ensures ∙ own_count s.trains.now s.stops.now s.ordered n c.requires.in_force in
     let end : l.i ≡ (train_row n s.trains.now).count = omega arith in
-    let state = subst (λ (i : ℕ). FilledTo m s.query.now s.trains.now s.stops.now a.layer.number n a.run.shift a.known.now a.work.now l.work i l.found l.aboard l.known) end l.invariant in
-    fills_run m s.query.now s.trains.now s.stops.now a.layer.number n a.run.shift a.known.now basis c.requires.in_force a.work.now l.work l.found l.aboard l.known state
+    let state = subst (λ (i : ℕ). FilledTo m s.query.now s.trains.now s.stops.now a.layer.number n a.run.shift a.reached.now a.work.now l.work i l.found l.aboard l.reached) end l.invariant in
+    fills_run m s.query.now s.trains.now s.stops.now a.layer.number n a.run.shift a.reached.now basis c.requires.in_force a.work.now l.work l.found l.aboard l.reached state

@@ -48,17 +48,17 @@ loop-train-preserved g c =
     let long = length-take-le count a.usable.now c.requires.each in
     let asked = get_or-take count a.usable.now l.train false (omega arith) in
     let here = l.invariant.2 (omega arith) in
-    let before = subst (λ (r : ℕ). Fills (g.P.Tariff.meaning s.tariff.now) s.query.now s.trains.now s.stops.now a.layer.number (ShiftAsked s.query.now s.trains.now a.shift a.usable.now) a.work.now l.work (place size a.shift 0) (place size a.shift r) l.found a.known.now l.known) (sym here) l.invariant.1 in (
+    let before = subst (λ (r : ℕ). Fills (g.P.Tariff.meaning s.tariff.now) s.query.now s.trains.now s.stops.now a.layer.number (ShiftAsked s.query.now s.trains.now a.shift a.usable.now) a.work.now l.work (place size a.shift 0) (place size a.shift r) l.found a.reached.now l.reached) (sym here) l.invariant.1 in (
       train.first + train.count,
       elim c.if-usable.branch [
         | then-usable w ↦
-            rw (w.work-is, w.known-is, w.found-is)
+            rw (w.work-is, w.reached-is, w.found-is)
             (fills_then s.ordered before w.fill_run-found.ensures (λ runs may. sym w.if-usable.true ∙ asked ∙ may l.train (omega arith)) (omega arith))
         | else-usable w ↦
             let blank = subst (λ (r : ℕ). BlankFrom (layer_at size a.layer.number + place size a.shift r) l.work) (sym here) (l.invariant.1.blank c.requires.blank) in
             let basis : Basis m s.trains.now s.stops.now = record { connex = laws.connex t; transitive = laws.transitive t; grows = laws.grows t; keeps = laws.keeps t; starts = laws.starts t; counts = laws.counts t; timetable = timetable_of s } in
-            let idle = fills_idle m s.query.now s.trains.now s.stops.now basis a.layer.number l.train a.shift (omega arith) l.work l.known blank in
-            rw (w.work-is, w.known-is, w.found-is ∙ sym (or-false l.found))
+            let idle = fills_idle m s.query.now s.trains.now s.stops.now basis a.layer.number l.train a.shift (omega arith) l.work l.reached blank in
+            rw (w.work-is, w.reached-is, w.found-is ∙ sym (or-false l.found))
             (fills_then s.ordered before idle (λ runs may. sym w.if-usable.false ∙ asked ∙ may l.train (omega arith)) (omega arith))
       ],
       λ h. ap (λ n. (train_row n s.trains.now).first) (add-one l.train) ∙ next_first s.trains.now s.stops.now s.ordered l.train (omega arith),
@@ -72,4 +72,4 @@ returns g c =
     let l = c.loop-train in
     let size = length s.stops.now in
     let long = length-take-le (length s.trains.now) a.usable.now c.requires.each in
-    subst (λ (r : ℕ). Fills (g.P.Tariff.meaning s.tariff.now) s.query.now s.trains.now s.stops.now a.layer.number (ShiftAsked s.query.now s.trains.now a.shift a.usable.now) a.work.now l.work (place size a.shift 0) (place size a.shift r) l.found a.known.now l.known) (l.invariant.3 (omega arith)) l.invariant.1
+    subst (λ (r : ℕ). Fills (g.P.Tariff.meaning s.tariff.now) s.query.now s.trains.now s.stops.now a.layer.number (ShiftAsked s.query.now s.trains.now a.shift a.usable.now) a.work.now l.work (place size a.shift 0) (place size a.shift r) l.found a.reached.now l.reached) (l.invariant.3 (omega arith)) l.invariant.1

@@ -1,5 +1,6 @@
 use Rattle.std.proofs.Common.{◌+◌, length, set, ap, sym, ◌∙◌}
 use Rattle.connection.specs.Choosing.{cheaper}
+use Rattle.search.specs.Chains.{arrived}
 use Rattle.search.specs.Ends.{ends_no_dearer, is_end, end_here}
 use Rattle.search.specs.Records.{record_of}
 use Rattle.search.specs.Working.{layer_at}
@@ -17,5 +18,6 @@ returns-in_default g c =
     let none = sym c.in_default.is in
     record {
       work = blank_kept at a.work.now c.requires.blank ∙ ap (λ o. set a.work.now at (record_of o)) none;
-      known = cheaper_none m a.known.now ∙ ap (cheaper (ends_no_dearer m) a.known.now) (sym (no_end_here b a.layer.number a.place) ∙ ap (end_here b a.layer.number a.place) none);
+      end = cheaper_none m a.reached.now.end ∙ ap (cheaper (ends_no_dearer m) a.reached.now.end) (sym (no_end_here b a.layer.number a.place) ∙ ap (end_here b a.layer.number a.place) none);
+      arrivals = ap (arrived a.reached.now.arrivals a.stop.now.station a.place) none;
     }
