@@ -1,4 +1,5 @@
 mod Continued
+mod EntryTests
 mod FewCalls
 mod Found
 mod Gaps
@@ -8,6 +9,7 @@ mod KeptHistories
 mod KeptState
 mod KeptWithdrawing
 mod LawfulTrains
+mod LentTables
 mod Places
 mod Pushed
 mod RefusalTests

@@ -18,6 +18,7 @@ pub mod entering;
 mod example;
 pub mod histories;
 mod judging;
+pub mod lending;
 pub mod limits;
 mod moves;
 pub mod reading;
