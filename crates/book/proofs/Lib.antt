@@ -8,8 +8,8 @@ mod KeptEntering
 mod KeptHistories
 mod KeptState
 mod KeptWithdrawing
+mod KnownRows
 mod LawfulTrains
-mod LentTables
 mod Places
 mod Pushed
 mod RefusalTests

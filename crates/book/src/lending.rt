@@ -24,6 +24,7 @@ use crate::tables::{have_room, hold};
 
 mod entering;
 
+// Each table has a lifetime of its own: were there one for both, a caller would not learn what they hold when they come back.
 #[derive(Drop)]
 pub struct LentTables<'t, 's> {
     trains: &'t mut [TrainRow],
@@ -39,10 +40,10 @@ pub struct LentTables<'t, 's> {
 impl<'t, 's> LentTables<'t, 's> {
     // Lends the tables. No row is looked over yet.
     pub fn over(trains: &'t mut [TrainRow], stops: &'s mut [StopRow]) -> LentTables<'t, 's>
-        ensures trains { result.trains.now ≡ trains.old }
-        ensures stops { result.stops.now ≡ stops.old }
-        ensures same_trains { result.trains.ghost_name ≡ trains.entry.ghost_name }
-        ensures same_stops { result.stops.ghost_name ≡ stops.entry.ghost_name }
+        ensures trains_unchanged { result.trains.now ≡ trains.old }
+        ensures stops_unchanged { result.stops.now ≡ stops.old }
+        ensures same_train_table { result.trains.ghost_name ≡ trains.entry.ghost_name }
+        ensures same_stop_table { result.stops.ghost_name ≡ stops.entry.ghost_name }
     {
         LentTables {
             trains,
@@ -58,10 +59,10 @@ impl LentTables<'_, '_> {
     fn hold(&mut self, book: &Book) -> bool
         ensures answer { result ≡ holds book.now.trains book.now.stops self.old.trains.now self.old.stops.now }
         ensures known { result ≡ true → self.new.book ≡ book.now }
-        ensures trains { self.new.trains.now ≡ self.old.trains.now }
-        ensures stops { self.new.stops.now ≡ self.old.stops.now }
-        ensures same_trains { self.new.trains.ghost_name ≡ self.old.trains.ghost_name }
-        ensures same_stops { self.new.stops.ghost_name ≡ self.old.stops.ghost_name }
+        ensures trains_unchanged { self.new.trains.now ≡ self.old.trains.now }
+        ensures stops_unchanged { self.new.stops.now ≡ self.old.stops.now }
+        ensures same_train_table { self.new.trains.ghost_name ≡ self.old.trains.ghost_name }
+        ensures same_stop_table { self.new.stops.ghost_name ≡ self.old.stops.ghost_name }
     {
         if book.trains == self.book.trains && book.stops == self.book.stops {
             return true;
@@ -84,10 +85,10 @@ impl LentTables<'_, '_> {
         ensures answer { result ≡ entry_holds entry.now self.old.trains.now self.old.stops.now }
         ensures known { result ≡ true → self.new.book ≡ entry.now.book }
         ensures known_stops { result ≡ true → self.new.taken ≡ entry.now.taken }
-        ensures trains { self.new.trains.now ≡ self.old.trains.now }
-        ensures stops { self.new.stops.now ≡ self.old.stops.now }
-        ensures same_trains { self.new.trains.ghost_name ≡ self.old.trains.ghost_name }
-        ensures same_stops { self.new.stops.ghost_name ≡ self.old.stops.ghost_name }
+        ensures trains_unchanged { self.new.trains.now ≡ self.old.trains.now }
+        ensures stops_unchanged { self.new.stops.now ≡ self.old.stops.now }
+        ensures same_train_table { self.new.trains.ghost_name ≡ self.old.trains.ghost_name }
+        ensures same_stop_table { self.new.stops.ghost_name ≡ self.old.stops.ghost_name }
     {
         if !self.hold(&entry.book) {
             return false;
@@ -111,10 +112,10 @@ impl LentTables<'_, '_> {
     pub fn check(&mut self, book: &Book) -> Result<(), Refusal>
         ensures answer { result ≡ check_answer book.now self.old.trains.now self.old.stops.now }
         ensures history { LeadsOn (Closed book.now) self.old.trains.now self.old.stops.now reads (Closed book.now) self.new.trains.now self.new.stops.now }
-        ensures trains { self.new.trains.now ≡ self.old.trains.now }
-        ensures stops { self.new.stops.now ≡ self.old.stops.now }
-        ensures same_trains { self.new.trains.ghost_name ≡ self.old.trains.ghost_name }
-        ensures same_stops { self.new.stops.ghost_name ≡ self.old.stops.ghost_name }
+        ensures trains_unchanged { self.new.trains.now ≡ self.old.trains.now }
+        ensures stops_unchanged { self.new.stops.now ≡ self.old.stops.now }
+        ensures same_train_table { self.new.trains.ghost_name ≡ self.old.trains.ghost_name }
+        ensures same_stop_table { self.new.stops.ghost_name ≡ self.old.stops.ghost_name }
     {
         if !self.hold(book) {
             return Err(Refusal::Damaged);

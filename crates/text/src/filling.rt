@@ -29,9 +29,9 @@ fn refused_at(number: usize, refused: Refused<Book>) -> Misread
 
 // The train ends with this line.
 fn finish_train(entry: Entry, tables: &mut LentTables, number: usize) -> Result<Stage, Misread>
-    ensures comes { left result tables.new.trains.now tables.new.stops.now ≡ finishing number entry tables.old.trains.now tables.old.stops.now }
-    ensures same_trains { tables.new.trains.ghost_name ≡ tables.old.trains.ghost_name }
-    ensures same_stops { tables.new.stops.ghost_name ≡ tables.old.stops.ghost_name }
+    ensures outcome { left result tables.new.trains.now tables.new.stops.now ≡ finishing number entry tables.old.trains.now tables.old.stops.now }
+    ensures same_train_table { tables.new.trains.ghost_name ≡ tables.old.trains.ghost_name }
+    ensures same_stop_table { tables.new.stops.ghost_name ≡ tables.old.stops.ghost_name }
 {
     match tables.finish(entry) {
         Ok(book) => Ok(Stage::Between(book)),
@@ -46,9 +46,9 @@ fn take_stop(
     row: StopRow,
     number: usize,
 ) -> Result<Stage, Misread>
-    ensures comes { left result tables.new.trains.now tables.new.stops.now ≡ stopping number row entry tables.old.trains.now tables.old.stops.now }
-    ensures same_trains { tables.new.trains.ghost_name ≡ tables.old.trains.ghost_name }
-    ensures same_stops { tables.new.stops.ghost_name ≡ tables.old.stops.ghost_name }
+    ensures outcome { left result tables.new.trains.now tables.new.stops.now ≡ stopping number row entry tables.old.trains.now tables.old.stops.now }
+    ensures same_train_table { tables.new.trains.ghost_name ≡ tables.old.trains.ghost_name }
+    ensures same_stop_table { tables.new.stops.ghost_name ≡ tables.old.stops.ghost_name }
 {
     match tables.stop(entry, row.station, row.arrive, row.depart) {
         Ok(entry) if row.depart.is_some() => Ok(Stage::Inside(entry)),
@@ -72,9 +72,9 @@ impl Stage {
         line: StopLine,
         number: usize,
     ) -> Result<Stage, Misread>
-        ensures comes { left result tables.new.trains.now tables.new.stops.now ≡ taking number line self tables.old.trains.now tables.old.stops.now }
-        ensures same_trains { tables.new.trains.ghost_name ≡ tables.old.trains.ghost_name }
-        ensures same_stops { tables.new.stops.ghost_name ≡ tables.old.stops.ghost_name }
+        ensures outcome { left result tables.new.trains.now tables.new.stops.now ≡ taking number line self tables.old.trains.now tables.old.stops.now }
+        ensures same_train_table { tables.new.trains.ghost_name ≡ tables.old.trains.ghost_name }
+        ensures same_stop_table { tables.new.stops.ghost_name ≡ tables.old.stops.ghost_name }
     {
         match self {
             Stage::Between(book) => {

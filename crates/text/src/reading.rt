@@ -43,9 +43,9 @@ fn wrong_names(book: Book) -> Misread
 // What comes of a line.
 fn read_line(stage: Stage, reader: Reader, tables: &mut LentTables) -> Result<Stage, Misread>
     requires whole { reader.left.now ≡ reader.line.now }
-    ensures comes { left result tables.new.trains.now tables.new.stops.now ≡ after_saying reader.entry.number (says reader.entry.number (line_with reader.entry.has_feed reader.entry.line.now)) stage tables.old.trains.now tables.old.stops.now }
-    ensures same_trains { tables.new.trains.ghost_name ≡ tables.old.trains.ghost_name }
-    ensures same_stops { tables.new.stops.ghost_name ≡ tables.old.stops.ghost_name }
+    ensures outcome { left result tables.new.trains.now tables.new.stops.now ≡ after_saying reader.entry.number (says reader.entry.number (line_with reader.entry.has_feed reader.entry.line.now)) stage tables.old.trains.now tables.old.stops.now }
+    ensures same_train_table { tables.new.trains.ghost_name ≡ tables.old.trains.ghost_name }
+    ensures same_stop_table { tables.new.stops.ghost_name ≡ tables.old.stops.ghost_name }
 {
     let number = reader.number();
     match said(reader) {
@@ -59,9 +59,9 @@ fn read_line(stage: Stage, reader: Reader, tables: &mut LentTables) -> Result<St
 
 // The lines that are left, the first of which begins a train.
 fn read_lines(book: Book, mut text: Lines, tables: &mut LentTables) -> Result<Book, Misread>
-    ensures comes { left result tables.new.trains.now tables.new.stops.now ≡ reading text.entry.count (lines text.entry.left.now) (Between book) tables.old.trains.now tables.old.stops.now }
-    ensures same_trains { tables.new.trains.ghost_name ≡ tables.old.trains.ghost_name }
-    ensures same_stops { tables.new.stops.ghost_name ≡ tables.old.stops.ghost_name }
+    ensures outcome { left result tables.new.trains.now tables.new.stops.now ≡ reading text.entry.count (lines text.entry.left.now) (Between book) tables.old.trains.now tables.old.stops.now }
+    ensures same_train_table { tables.new.trains.ghost_name ≡ tables.old.trains.ghost_name }
+    ensures same_stop_table { tables.new.stops.ghost_name ≡ tables.old.stops.ghost_name }
 {
     let mut stage = Stage::Between(book);
     while let Some(reader) = text.next_line() {
@@ -72,9 +72,9 @@ fn read_lines(book: Book, mut text: Lines, tables: &mut LentTables) -> Result<Bo
 
 // The whole text, the tables first.
 fn read_lent(book: Book, tables: &mut LentTables, text: &[u8]) -> Result<Book, Misread>
-    ensures comes { left result tables.new.trains.now tables.new.stops.now ≡ read text.now book tables.old.trains.now tables.old.stops.now }
-    ensures same_trains { tables.new.trains.ghost_name ≡ tables.old.trains.ghost_name }
-    ensures same_stops { tables.new.stops.ghost_name ≡ tables.old.stops.ghost_name }
+    ensures outcome { left result tables.new.trains.now tables.new.stops.now ≡ read text.now book tables.old.trains.now tables.old.stops.now }
+    ensures same_train_table { tables.new.trains.ghost_name ≡ tables.old.trains.ghost_name }
+    ensures same_stop_table { tables.new.stops.ghost_name ≡ tables.old.stops.ghost_name }
 {
     if let Err(refusal) = tables.check(&book) {
         return Err(Misread {

@@ -13,10 +13,10 @@ use crate::state::{Book, Entry};
 impl LentTables<'_, '_> {
     fn may_begin(&mut self, book: &Book, number: u16) -> Result<(), Refusal>
         ensures answer { result ≡ ok_unless (begin_refusal book.now self.old.trains.now self.old.stops.now number) }
-        ensures trains { self.new.trains.now ≡ self.old.trains.now }
-        ensures stops { self.new.stops.now ≡ self.old.stops.now }
-        ensures same_trains { self.new.trains.ghost_name ≡ self.old.trains.ghost_name }
-        ensures same_stops { self.new.stops.ghost_name ≡ self.old.stops.ghost_name }
+        ensures trains_unchanged { self.new.trains.now ≡ self.old.trains.now }
+        ensures stops_unchanged { self.new.stops.now ≡ self.old.stops.now }
+        ensures same_train_table { self.new.trains.ghost_name ≡ self.old.trains.ghost_name }
+        ensures same_stop_table { self.new.stops.ghost_name ≡ self.old.stops.ghost_name }
     {
         self.check(book)?;
         let trains = &mut *self.trains;
@@ -27,10 +27,10 @@ impl LentTables<'_, '_> {
         ensures answer { result ≡ ok_unless (stop_refusal entry.now self.old.trains.now self.old.stops.now next) }
         ensures known { result ≡ Ok tt → self.new.book ≡ entry.now.book }
         ensures known_stops { result ≡ Ok tt → self.new.taken ≡ entry.now.taken }
-        ensures trains { self.new.trains.now ≡ self.old.trains.now }
-        ensures stops { self.new.stops.now ≡ self.old.stops.now }
-        ensures same_trains { self.new.trains.ghost_name ≡ self.old.trains.ghost_name }
-        ensures same_stops { self.new.stops.ghost_name ≡ self.old.stops.ghost_name }
+        ensures trains_unchanged { self.new.trains.now ≡ self.old.trains.now }
+        ensures stops_unchanged { self.new.stops.now ≡ self.old.stops.now }
+        ensures same_train_table { self.new.trains.ghost_name ≡ self.old.trains.ghost_name }
+        ensures same_stop_table { self.new.stops.ghost_name ≡ self.old.stops.ghost_name }
     {
         if !self.hold_entry(entry) {
             return Err(Refusal::Damaged);
@@ -43,10 +43,10 @@ impl LentTables<'_, '_> {
         ensures answer { result ≡ ok_unless (finish_refusal entry.now self.old.trains.now self.old.stops.now) }
         ensures known { result ≡ Ok tt → self.new.book ≡ entry.now.book }
         ensures known_stops { result ≡ Ok tt → self.new.taken ≡ entry.now.taken }
-        ensures trains { self.new.trains.now ≡ self.old.trains.now }
-        ensures stops { self.new.stops.now ≡ self.old.stops.now }
-        ensures same_trains { self.new.trains.ghost_name ≡ self.old.trains.ghost_name }
-        ensures same_stops { self.new.stops.ghost_name ≡ self.old.stops.ghost_name }
+        ensures trains_unchanged { self.new.trains.now ≡ self.old.trains.now }
+        ensures stops_unchanged { self.new.stops.now ≡ self.old.stops.now }
+        ensures same_train_table { self.new.trains.ghost_name ≡ self.old.trains.ghost_name }
+        ensures same_stop_table { self.new.stops.ghost_name ≡ self.old.stops.ghost_name }
     {
         if !self.hold_entry(entry) {
             return Err(Refusal::Damaged);
@@ -65,10 +65,10 @@ impl LentTables<'_, '_> {
     ) -> Result<Entry, Refused<Book>>
         ensures answer { result ≡ begin_answer book self.old.trains.now self.old.stops.now number code features }
         ensures history { LeadsOn (Closed book) self.old.trains.now self.old.stops.now (begins number code features) (begun result) self.new.trains.now self.new.stops.now }
-        ensures trains { self.new.trains.now ≡ self.old.trains.now }
-        ensures stops { self.new.stops.now ≡ self.old.stops.now }
-        ensures same_trains { self.new.trains.ghost_name ≡ self.old.trains.ghost_name }
-        ensures same_stops { self.new.stops.ghost_name ≡ self.old.stops.ghost_name }
+        ensures trains_unchanged { self.new.trains.now ≡ self.old.trains.now }
+        ensures stops_unchanged { self.new.stops.now ≡ self.old.stops.now }
+        ensures same_train_table { self.new.trains.ghost_name ≡ self.old.trains.ghost_name }
+        ensures same_stop_table { self.new.stops.ghost_name ≡ self.old.stops.ghost_name }
     {
         match self.may_begin(&book, number) {
             Ok(()) => Ok(book.open(number, code, features)),
@@ -91,9 +91,9 @@ impl LentTables<'_, '_> {
         ensures answer { result ≡ stop_answer entry self.old.trains.now self.old.stops.now (row station arrive depart) }
         ensures rows { self.new.stops.now ≡ stop_rows entry self.old.trains.now self.old.stops.now (row station arrive depart) }
         ensures history { LeadsOn (Open entry) self.old.trains.now self.old.stops.now (next_stop (row station arrive depart)) (stopped result) self.new.trains.now self.new.stops.now }
-        ensures trains { self.new.trains.now ≡ self.old.trains.now }
-        ensures same_trains { self.new.trains.ghost_name ≡ self.old.trains.ghost_name }
-        ensures same_stops { self.new.stops.ghost_name ≡ self.old.stops.ghost_name }
+        ensures trains_unchanged { self.new.trains.now ≡ self.old.trains.now }
+        ensures same_train_table { self.new.trains.ghost_name ≡ self.old.trains.ghost_name }
+        ensures same_stop_table { self.new.stops.ghost_name ≡ self.old.stops.ghost_name }
     {
         let next = StopRow {
             station,
@@ -120,9 +120,9 @@ impl LentTables<'_, '_> {
         ensures answer { result ≡ finish_answer entry self.old.trains.now self.old.stops.now }
         ensures rows { self.new.trains.now ≡ finish_rows entry self.old.trains.now self.old.stops.now }
         ensures history { LeadsOn (Open entry) self.old.trains.now self.old.stops.now finishes (finished result) self.new.trains.now self.new.stops.now }
-        ensures stops { self.new.stops.now ≡ self.old.stops.now }
-        ensures same_trains { self.new.trains.ghost_name ≡ self.old.trains.ghost_name }
-        ensures same_stops { self.new.stops.ghost_name ≡ self.old.stops.ghost_name }
+        ensures stops_unchanged { self.new.stops.now ≡ self.old.stops.now }
+        ensures same_train_table { self.new.trains.ghost_name ≡ self.old.trains.ghost_name }
+        ensures same_stop_table { self.new.stops.ghost_name ≡ self.old.stops.ghost_name }
     {
         match self.may_finish(&entry) {
             Ok(()) => {

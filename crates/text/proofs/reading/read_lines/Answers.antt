@@ -13,10 +13,10 @@ returns-in_err-stage c =
     let t = c.read_line.new.tables in
     rw (handed_on.1, handed_on.2)
     (record {
-      comes = line_in_turn l.text.count _ _ l.text.left.now _ _ _ l.stage l.tables.trains.now l.tables.stops.now (left (Err c.in_err-stage.field-0.0) t.trains.now t.stops.now)
-          some e.number e.count e.line e.feed e.left c.in_err-stage.ensures.comes ∙ l.invariant.comes;
-      same_trains = c.in_err-stage.ensures.same_trains ∙ l.invariant.same_trains;
-      same_stops = c.in_err-stage.ensures.same_stops ∙ l.invariant.same_stops;
+      outcome = line_in_turn l.text.count _ _ l.text.left.now _ _ _ l.stage l.tables.trains.now l.tables.stops.now (left (Err c.in_err-stage.field-0.0) t.trains.now t.stops.now)
+          some e.number e.count e.line e.feed e.left c.in_err-stage.ensures.outcome ∙ l.invariant.outcome;
+      same_train_table = c.in_err-stage.ensures.same_train_table ∙ l.invariant.same_train_table;
+      same_stop_table = c.in_err-stage.ensures.same_stop_table ∙ l.invariant.same_stop_table;
     })
 
 pub loop-reader-preserved : goal.loop-reader-preserved
@@ -26,8 +26,8 @@ loop-reader-preserved c =
     let some : 0 < length l.text.left.now = search rules in
     let t = c.read_line.new.tables in
     record {
-      comes = line_in_turn l.text.count _ _ l.text.left.now _ _ _ l.stage l.tables.trains.now l.tables.stops.now (left (Ok c.in_ok-stage.stage) t.trains.now t.stops.now)
-          some e.number e.count e.line e.feed e.left c.in_ok-stage.ensures.comes ∙ l.invariant.comes;
-      same_trains = c.in_ok-stage.ensures.same_trains ∙ l.invariant.same_trains;
-      same_stops = c.in_ok-stage.ensures.same_stops ∙ l.invariant.same_stops;
+      outcome = line_in_turn l.text.count _ _ l.text.left.now _ _ _ l.stage l.tables.trains.now l.tables.stops.now (left (Ok c.in_ok-stage.stage) t.trains.now t.stops.now)
+          some e.number e.count e.line e.feed e.left c.in_ok-stage.ensures.outcome ∙ l.invariant.outcome;
+      same_train_table = c.in_ok-stage.ensures.same_train_table ∙ l.invariant.same_train_table;
+      same_stop_table = c.in_ok-stage.ensures.same_stop_table ∙ l.invariant.same_stop_table;
     }

@@ -7,7 +7,7 @@ use Rattle.book.specs.declared.rows.StopRow.{StopRow}
 use Rattle.book.specs.declared.rows.TrainRow.{TrainRow}
 use Rattle.book.specs.declared.state.Entry.{Entry}
 use Rattle.book.proofs.EntryTests.{entry_without_book, entry_room, entry_order}
-use Rattle.book.proofs.LentTables.{known_order}
+use Rattle.book.proofs.KnownRows.{known_order}
 use Rattle.book.proofs.lending.LentTables.hold_entry.Goals as goal
 
 room_in : (t : Bool) (e : Entry) (ts' ts : List TrainRow) (ss' ss : List StopRow) → ts' ≡ ts → ss' ≡ ss → t ≡ room e (length ts') (length ss') → t ≡ room e (length ts) (length ss)
@@ -23,23 +23,23 @@ returns-then-not-hold-clause-answer c = entry_without_book _ _ _ c.if-not-hold.e
 pub returns-then-not-have_room-clause-answer : goal.returns-then-not-have_room-clause-answer
 returns-then-not-have_room-clause-answer c =
     let h = c.if-not-hold.ensures in
-    sym (entry_room _ _ _ h.answer (room_in _ c.args.entry.now _ _ _ _ h.trains h.stops c.if-not-have_room.ensures))
+    sym (entry_room _ _ _ h.answer (room_in _ c.args.entry.now _ _ _ _ h.trains_unchanged h.stops_unchanged c.if-not-have_room.ensures))
 
 pub returns-then-entry-self-clause-answer : goal.returns-then-entry-self-clause-answer
 returns-then-entry-self-clause-answer c =
     let h = c.if-not-hold.ensures in
     let l = c.hold.new.self in
-    entry_order _ _ _ h.answer (room_in _ c.args.entry.now _ _ _ _ h.trains h.stops c.if-not-have_room.ensures)
-    (known_order l.book l.taken c.args.entry.now l.stops.now c.args.self.now.stops.now l.ordered (h.known refl) c.if-entry-self.true h.stops)
+    entry_order _ _ _ h.answer (room_in _ c.args.entry.now _ _ _ _ h.trains_unchanged h.stops_unchanged c.if-not-have_room.ensures)
+    (known_order l.book l.taken c.args.entry.now l.stops.now c.args.self.now.stops.now l.ordered (h.known refl) c.if-entry-self.true h.stops_unchanged)
 
 pub returns-then-not-are_in_order-clause-answer : goal.returns-then-not-are_in_order-clause-answer
 returns-then-not-are_in_order-clause-answer c =
     let h = c.if-not-hold.ensures in
-    entry_order _ _ _ h.answer (room_in _ c.args.entry.now _ _ _ _ h.trains h.stops c.if-not-have_room.ensures)
-    (order_in _ c.args.entry.now _ _ _ _ c.if-not-are_in_order.ensures c.stops.ensures c.row.ensures h.stops)
+    entry_order _ _ _ h.answer (room_in _ c.args.entry.now _ _ _ _ h.trains_unchanged h.stops_unchanged c.if-not-have_room.ensures)
+    (order_in _ c.args.entry.now _ _ _ _ c.if-not-are_in_order.ensures c.stops.ensures c.row.ensures h.stops_unchanged)
 
 pub returns-clause-answer : goal.returns-clause-answer
 returns-clause-answer c =
     let h = c.if-not-hold.ensures in
-    entry_order _ _ _ h.answer (room_in _ c.args.entry.now _ _ _ _ h.trains h.stops c.if-not-have_room.ensures)
-    (order_in _ c.args.entry.now _ _ _ _ c.if-not-are_in_order.ensures c.stops.ensures c.row.ensures h.stops)
+    entry_order _ _ _ h.answer (room_in _ c.args.entry.now _ _ _ _ h.trains_unchanged h.stops_unchanged c.if-not-have_room.ensures)
+    (order_in _ c.args.entry.now _ _ _ _ c.if-not-are_in_order.ensures c.stops.ensures c.row.ensures h.stops_unchanged)

@@ -10,9 +10,9 @@ returns-in_err-check-clause-answer c =
     grind (arith, nat_tests)
 
 pub judge_begin-requires : goal.judge_begin-requires
-judge_begin-requires c = rw c.check.ensures.trains (held _ _ _ _ (sym (check_passed _ _ _ (sym c.check.ensures.answer ∙ c.in_ok-check.was)))).trains_fit
+judge_begin-requires c = rw c.check.ensures.trains_unchanged (held _ _ _ _ (sym (check_passed _ _ _ (sym c.check.ensures.answer ∙ c.in_ok-check.was)))).trains_fit
 
 pub returns-clause-answer : goal.returns-clause-answer
 returns-clause-answer c =
-    let judged = rw c.check.ensures.trains at c.judge_begin.ensures in
+    let judged = rw c.check.ensures.trains_unchanged at c.judge_begin.ensures in
     judged c.args.self.now.stops.now (sym (check_passed _ _ _ (sym c.check.ensures.answer ∙ c.in_ok-check.was)))
