@@ -1,5 +1,5 @@
 -- What follows where the tables hold.
-use Rattle.std.proofs.Common.{◌≡◌, ℕ, ◌+◌, ◌<◌, ◌≤◌, true, List, [], ◌∷◌, length, take, drop, None, ◌∙◌, arith, length-drop, length-take-le}
+use Rattle.std.proofs.Common.{◌≡◌, ℕ, ◌+◌, ◌<◌, ◌≤◌, true, List, [], ◌∷◌, length, take, drop, None, refl, ◌∙◌, arith, length-drop, length-take-le}
 use lib.ListN.{length-map}
 use Rattle.std.proofs.lemmas.Bool.{and_parts, and_from, leb-true, ltb-true, eqb-true, le-leb, lt-ltb}
 use Rattle.book.specs.declared.rows.StopRow.{StopRow}
@@ -38,6 +38,11 @@ unfolding holds
 hold_from n s trains stops k =
     and_from _ _ (and_from _ _ (and_from _ _ (and_from _ _ (le-leb n 512 k.few_trains) (le-leb n (length trains) k.trains_fit)) (le-leb s 4096 k.few_stops)) (le-leb s (length stops) k.stops_fit))
     (and_from _ _ k.no_gap k.are_sound)
+
+-- no row is in use: whatever the tables are, they hold that
+pub none_held : (trains : List TrainRow) (stops : List StopRow) → holds 0 0 trains stops ≡ true
+none_held trains stops =
+    hold_from 0 0 trains stops (record { few_trains = omega arith; trains_fit = omega arith; few_stops = omega arith; stops_fit = omega arith; no_gap = refl; are_sound = refl })
 
 pub record EntryHeld (e : Entry) (trains : List TrainRow) (stops : List StopRow) : Type 0 where
   pub book : holds e.book.trains e.book.stops trains stops ≡ true

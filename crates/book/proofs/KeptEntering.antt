@@ -14,7 +14,7 @@ use Rattle.book.specs.Refusals.{begin_refusal, stop_refusal, finish_refusal}
 use Rattle.book.proofs.Held.{held, hold_from, entry_held, entry_hold_from, length_open}
 use Rattle.book.proofs.Pushed.{in_order_push, all_sound_push, gapless_append, gapless_one, open_more}
 use Rattle.book.proofs.Windows.{trains_set}
-use Rattle.book.proofs.RefusalTests.{begin_held, begin_passed, stop_passed, finish_passed}
+use Rattle.book.proofs.RefusalTests.{begin_held, begin_passed, stop_held, stop_passed, finish_held, finish_passed}
 use Rattle.book.specs.Histories.{Closed, begun, stopped, finished}
 use Rattle.book.specs.PlainList.{begins, stops, finishes, reads, InForce, none_open, with_open, fresh, lengthened}
 use Rattle.book.proofs.KeptState.{Kept, next, begin_same, stop_same, finish_same}
@@ -92,6 +92,10 @@ module _ (e : Entry) (ts : List TrainRow) (ss : List StopRow) (s : StopRow) wher
         taken_in_order = subst (λ (xs : List StopRow). in_order None xs ≡ true) (sym opened) (in_order_push None (open_stops e ss) s j.taken_in_order p.0);
       })
 
+  pub stop_holds : stop_refusal e ts ss s ≡ None → entry_holds (longer e) ts (set ss (e.book.stops + e.taken) s) ≡ true
+  unfolding written
+  stop_holds passed = longer_held (sym (stop_held e ts ss s passed)) passed
+
   stop_step : (r : Option Refusal) → entry_holds e ts ss ≡ true → eqb e.number 0 ≡ false → stop_refusal e ts ss s ≡ r
       → Kept (length ts) (length ss) (unless r (with_open (listed e.book.trains ts ss) (open_train e ss)) (with_open (listed e.book.trains ts ss) (lengthened (open_train e ss) s)))
       (stopped (refused_or r e (longer e))) ts (unless r ss written)
@@ -146,6 +150,10 @@ module _ (e : Entry) (ts : List TrainRow) (ss : List StopRow) where
             (gapless_append 0 e.book.stops (e.book.stops + e.taken) (take e.book.trains ts) (finished_row e ∷ []) k.no_gap (gapless_one e.book.stops (e.book.stops + e.taken) (finished_row e) refl refl));
         are_sound = subst (λ (l : List Train). all_sound l ≡ true) (sym (listed_filled h)) (all_sound_push (listed e.book.trains ts ss) (open_train e ss) k.are_sound sound_now);
       })
+
+  pub finish_holds : eqb e.number 0 ≡ false → finish_refusal e ts ss ≡ None → holds (e.book.trains + 1) (e.book.stops + e.taken) (set ts e.book.trains (finished_row e)) ss ≡ true
+  unfolding filled
+  finish_holds num passed = finished_held (sym (finish_held e ts ss passed)) num passed
 
   finish_step : (r : Option Refusal) → entry_holds e ts ss ≡ true → eqb e.number 0 ≡ false → finish_refusal e ts ss ≡ r
       → Kept (length ts) (length ss) (unless r (with_open (listed e.book.trains ts ss) (open_train e ss)) (none_open (listed e.book.trains ts ss ++ (open_train e ss ∷ []))))

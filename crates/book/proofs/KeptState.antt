@@ -1,5 +1,5 @@
 -- What is kept from call to call: the rows hold, and hold the trains in force. Refusals over the tables are then those over the list.
-use Rattle.std.proofs.Common.{◌≡◌, ℕ, true, false, eqb, List, [], ◌∷◌, ◌++◌, length, refl, arith}
+use Rattle.std.proofs.Common.{◌≡◌, ℕ, true, false, eqb, List, [], ◌∷◌, ◌++◌, length, refl}
 use Rattle.book.specs.declared.rows.StopRow.{StopRow}
 use Rattle.book.specs.declared.rows.TrainRow.{TrainRow}
 use Rattle.book.specs.declared.state.Book.{Book}
@@ -7,7 +7,7 @@ use Rattle.book.specs.declared.state.Entry.{Entry}
 use Rattle.book.specs.Trains.{listed, open_train, holds, entry_holds}
 use Rattle.book.specs.Answers.{new_book}
 use Rattle.book.specs.Refusals.{begin_fault, next_fault, finish_fault, withdraw_fault, begin_refusal, stop_refusal, finish_refusal, withdraw_refusal}
-use Rattle.book.proofs.Held.{hold_from}
+use Rattle.book.proofs.Held.{none_held}
 use Rattle.book.specs.Histories.{State, Closed, Open}
 use Rattle.book.specs.PlainList.{Call, InForce, none_open, with_open, advance, after}
 
@@ -36,8 +36,7 @@ after_one_more tr sr f [] c = refl
 after_one_more tr sr f (d ∷ cs) c = after_one_more tr sr (next tr sr f d) cs c
 
 pub new_kept : (ts : List TrainRow) (ss : List StopRow) → Kept (length ts) (length ss) (none_open []) (Closed new_book) ts ss
-new_kept ts ss =
-    record { train_rows = refl; stop_rows = refl; whole = hold_from 0 0 ts ss (record { few_trains = omega arith; trains_fit = omega arith; few_stops = omega arith; stops_fit = omega arith; no_gap = refl; are_sound = refl }); same = refl }
+new_kept ts ss = record { train_rows = refl; stop_rows = refl; whole = none_held ts ss; same = refl }
 
 -- ---- a refusal is the same over the tables and over the plain list
 pub begin_same : (b : Book) (ts : List TrainRow) (ss : List StopRow) (n : ℕ) → holds b.trains b.stops ts ss ≡ true

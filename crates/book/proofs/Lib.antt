@@ -1,4 +1,5 @@
 mod Continued
+mod EntryTests
 mod FewCalls
 mod Found
 mod Gaps
@@ -7,6 +8,7 @@ mod KeptEntering
 mod KeptHistories
 mod KeptState
 mod KeptWithdrawing
+mod KnownRows
 mod LawfulTrains
 mod Places
 mod Pushed

@@ -3,6 +3,7 @@ pub mod Histories
 pub mod Limits
 pub mod PlainList
 pub mod Refusals
+pub mod Room
 pub mod Rules
 pub mod Stops
 pub mod Trains

@@ -1,7 +1,12 @@
 // Whether a call may be made; else why not, the earliest listed reason first.
-ghost use Rattle.std.specs.Prelude.{◌≡◌, take};
+//
+// The `judge_` functions look at what the call asks alone: where the tables hold, the call is refused by what they find.
+ghost use Rattle.std.specs.Prelude.{◌≡◌, ◌≤◌, true, List, length, take};
 ghost use Rattle.book.specs.Answers.{place, place_if_any, ok_unless, given_unless};
 ghost use Rattle.book.specs.Refusals.{begin_refusal, stop_refusal, finish_refusal, withdraw_refusal};
+ghost use Rattle.book.specs.Trains.{holds, entry_holds};
+ghost use Rattle.book.specs.declared.rows.StopRow.{StopRow};
+ghost use Rattle.book.specs.declared.rows.TrainRow.{TrainRow};
 
 use crate::limits::{MOST_STOPS, MOST_STOPS_OF_TRAIN, MOST_TRAINS};
 use crate::refusal::Refusal;
@@ -18,15 +23,10 @@ fn place_of(number: u16, rows: &[TrainRow]) -> Option<usize>
 }
 
 impl Book {
-    pub(crate) fn may_begin(
-        &self,
-        trains: &[TrainRow],
-        stops: &[StopRow],
-        number: u16,
-    ) -> Result<(), Refusal>
-        ensures { result ≡ ok_unless (begin_refusal self.now trains.now stops.now number) }
+    pub(crate) fn judge_begin(&self, trains: &[TrainRow], number: u16) -> Result<(), Refusal>
+        requires { self.now.trains ≤ length trains.now }
+        ensures { (stops : List StopRow) → holds self.now.trains self.now.stops trains.now stops ≡ true → result ≡ ok_unless (begin_refusal self.now trains.now stops number) }
     {
-        self.check(trains, stops)?;
         let used = self.trains as usize;
         if number == 0 {
             return Err(Refusal::ZeroNumber);
@@ -38,6 +38,18 @@ impl Book {
             return Err(Refusal::NoTrainRow);
         }
         Ok(())
+    }
+
+    pub(crate) fn may_begin(
+        &self,
+        trains: &[TrainRow],
+        stops: &[StopRow],
+        number: u16,
+    ) -> Result<(), Refusal>
+        ensures { result ≡ ok_unless (begin_refusal self.now trains.now stops.now number) }
+    {
+        self.check(trains, stops)?;
+        self.judge_begin(trains, number)
     }
 
     // The row of the train that is to be withdrawn.
@@ -55,17 +67,9 @@ impl Book {
 }
 
 impl Entry {
-    pub(crate) fn may_stop(
-        &self,
-        trains: &[TrainRow],
-        stops: &[StopRow],
-        next: StopRow,
-    ) -> Result<(), Refusal>
-        ensures { result ≡ ok_unless (stop_refusal self.now trains.now stops.now next) }
+    pub(crate) fn judge_stop(&self, stops: &[StopRow], next: StopRow) -> Result<(), Refusal>
+        ensures { (trains : List TrainRow) → entry_holds self.now trains stops.now ≡ true → result ≡ ok_unless (stop_refusal self.now trains stops.now next) }
     {
-        if !hold_entry(self, trains, stops) {
-            return Err(Refusal::Damaged);
-        }
         let row = self.row();
         may_follow(last_of(row.stops(stops)), next)?;
         let end = row.first as usize + row.count as usize;
@@ -78,15 +82,35 @@ impl Entry {
         Ok(())
     }
 
+    pub(crate) fn judge_finish(&self, stops: &[StopRow]) -> Result<(), Refusal>
+        ensures { (trains : List TrainRow) → entry_holds self.now trains stops.now ≡ true → result ≡ ok_unless (finish_refusal self.now trains stops.now) }
+    {
+        if !has_ended(last_of(self.row().stops(stops))) {
+            return Err(Refusal::Unfinished);
+        }
+        Ok(())
+    }
+
+    pub(crate) fn may_stop(
+        &self,
+        trains: &[TrainRow],
+        stops: &[StopRow],
+        next: StopRow,
+    ) -> Result<(), Refusal>
+        ensures { result ≡ ok_unless (stop_refusal self.now trains.now stops.now next) }
+    {
+        if !hold_entry(self, trains, stops) {
+            return Err(Refusal::Damaged);
+        }
+        self.judge_stop(stops, next)
+    }
+
     pub(crate) fn may_finish(&self, trains: &[TrainRow], stops: &[StopRow]) -> Result<(), Refusal>
         ensures { result ≡ ok_unless (finish_refusal self.now trains.now stops.now) }
     {
         if !hold_entry(self, trains, stops) {
             return Err(Refusal::Damaged);
         }
-        if !has_ended(last_of(self.row().stops(stops))) {
-            return Err(Refusal::Unfinished);
-        }
-        Ok(())
+        self.judge_finish(stops)
     }
 }

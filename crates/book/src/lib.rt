@@ -9,8 +9,8 @@
 //     stop table    | 1 | 2 | 3 | 2 | 3 | unused ..
 //                    \__ 11 ___/ \_ 12 _/
 //
-// The tables may hold anything: each call looks them over and refuses what does not hold. No crate below `desk` allocates,
-// so they are slices, with the counts in the book. They stay two parameters, since a struct of both would ask for the
+// The tables may hold anything: each call looks them over and refuses what does not hold. Who makes many calls in a row
+// lends them once (`lending`), and they are looked over once. No crate below `desk` allocates, so they are slices, with the counts in the book. They stay two parameters, since a struct of both would ask for the
 // right to write in calls that only read: `begin` and `check` read both, `stop` writes one, `finish` the other.
 #![tactic(auto)]
 
@@ -18,6 +18,7 @@ pub mod entering;
 mod example;
 pub mod histories;
 mod judging;
+pub mod lending;
 pub mod limits;
 mod moves;
 pub mod reading;

@@ -1,6 +1,7 @@
 // Whether the rows of the two tables hold what a book or an entry says.
 ghost use Rattle.std.specs.Prelude.{◌≡◌, ◌≤◌, ◌&&◌, length};
 ghost use Rattle.book.specs.Limits.{most_stops};
+ghost use Rattle.book.specs.Room.{room};
 ghost use Rattle.book.specs.Trains.{gapless, all_sound, trains_in, holds, entry_holds};
 
 use crate::limits::{MOST_STOPS, MOST_STOPS_OF_TRAIN, MOST_TRAINS};
@@ -42,21 +43,27 @@ pub fn hold(book: &Book, trains: &[TrainRow], stops: &[StopRow]) -> bool
     are_sound(&trains[..book.trains as usize], book.stops, stops)
 }
 
-// Whether the tables hold the entry's book and the entry's own stops, and have a row for its train.
-pub fn hold_entry(entry: &Entry, trains: &[TrainRow], stops: &[StopRow]) -> bool
-    ensures { result ≡ entry_holds entry.now trains.now stops.now }
+// Whether there is a row for the entry's train, and the entry's own stops fit the limits and their table.
+pub fn have_room(entry: &Entry, trains: &[TrainRow], stops: &[StopRow]) -> bool
+    ensures { result ≡ room entry.now (length trains.now) (length stops.now) }
 {
     let book = &entry.book;
-    if !hold(book, trains, stops) {
-        return false;
-    }
     if book.trains >= MOST_TRAINS || book.trains as usize >= trains.len() {
         return false;
     }
     let end = book.stops as usize + entry.taken as usize;
-    if end > MOST_STOPS as usize || end > stops.len() {
+    end <= MOST_STOPS as usize && end <= stops.len() && entry.taken as usize <= MOST_STOPS_OF_TRAIN
+}
+
+// Whether the tables hold the entry's book and the entry's own stops, and have a row for its train.
+pub fn hold_entry(entry: &Entry, trains: &[TrainRow], stops: &[StopRow]) -> bool
+    ensures { result ≡ entry_holds entry.now trains.now stops.now }
+{
+    if !hold(&entry.book, trains, stops) {
         return false;
     }
-    let taken = entry.row().stops(stops);
-    taken.len() <= MOST_STOPS_OF_TRAIN && are_in_order(taken)
+    if !have_room(entry, trains, stops) {
+        return false;
+    }
+    are_in_order(entry.row().stops(stops))
 }

@@ -4,6 +4,8 @@
 #[cfg(test)]
 mod filling;
 #[cfg(test)]
+mod lending;
+#[cfg(test)]
 mod refusing;
 #[cfg(test)]
 mod rows;

@@ -1,4 +1,4 @@
-// The book's calls that a line makes.
+// The book's calls that a line makes, on tables that are lent for all lines.
 //
 // An entry cannot be let go of, so each of these takes what the text has filled so far, and gives on what comes of it.
 ghost use Rattle.std.specs.Prelude.{◌≡◌};
@@ -7,8 +7,9 @@ ghost use Rattle.text.specs.Reading.{left, refused_at, finishing, stopping, same
 use crate::fault::{Cause, Fault, Misread};
 use crate::stage::Stage;
 use crate::stop_line::StopLine;
+use book::lending::LentTables;
 use book::refusal::{Refusal, Refused};
-use book::rows::{StopRow, TrainRow};
+use book::rows::StopRow;
 use book::state::{Book, Entry};
 
 // The book refuses a call of the line with this number.
@@ -27,15 +28,12 @@ fn refused_at(number: usize, refused: Refused<Book>) -> Misread
 }
 
 // The train ends with this line.
-fn finish_train(
-    entry: Entry,
-    trains: &mut [TrainRow],
-    stops: &[StopRow],
-    number: usize,
-) -> Result<Stage, Misread>
-    ensures { left result trains.new stops.now ≡ finishing number entry trains.old stops.now }
+fn finish_train(entry: Entry, tables: &mut LentTables, number: usize) -> Result<Stage, Misread>
+    ensures outcome { left result tables.new.trains.now tables.new.stops.now ≡ finishing number entry tables.old.trains.now tables.old.stops.now }
+    ensures same_train_table { tables.new.trains.ghost_name ≡ tables.old.trains.ghost_name }
+    ensures same_stop_table { tables.new.stops.ghost_name ≡ tables.old.stops.ghost_name }
 {
-    match entry.finish(trains, stops) {
+    match tables.finish(entry) {
         Ok(book) => Ok(Stage::Between(book)),
         Err(refused) => Err(refused_at(number, refused.abandoned())),
     }
@@ -44,16 +42,17 @@ fn finish_train(
 // The stop of a line, and the train's end where it has no departure.
 fn take_stop(
     entry: Entry,
-    trains: &mut [TrainRow],
-    stops: &mut [StopRow],
+    tables: &mut LentTables,
     row: StopRow,
     number: usize,
 ) -> Result<Stage, Misread>
-    ensures { left result trains.new stops.new ≡ stopping number row entry trains.old stops.old }
+    ensures outcome { left result tables.new.trains.now tables.new.stops.now ≡ stopping number row entry tables.old.trains.now tables.old.stops.now }
+    ensures same_train_table { tables.new.trains.ghost_name ≡ tables.old.trains.ghost_name }
+    ensures same_stop_table { tables.new.stops.ghost_name ≡ tables.old.stops.ghost_name }
 {
-    match entry.stop(trains, stops, row.station, row.arrive, row.depart) {
+    match tables.stop(entry, row.station, row.arrive, row.depart) {
         Ok(entry) if row.depart.is_some() => Ok(Stage::Inside(entry)),
-        Ok(entry) => finish_train(entry, trains, stops, number),
+        Ok(entry) => finish_train(entry, tables, number),
         Err(refused) => Err(refused_at(number, refused.abandoned())),
     }
 }
@@ -69,22 +68,23 @@ impl Stage {
     // What comes of the line with this number.
     pub fn take(
         self,
-        trains: &mut [TrainRow],
-        stops: &mut [StopRow],
+        tables: &mut LentTables,
         line: StopLine,
         number: usize,
     ) -> Result<Stage, Misread>
-        ensures { left result trains.new stops.new ≡ taking number line self trains.old stops.old }
+        ensures outcome { left result tables.new.trains.now tables.new.stops.now ≡ taking number line self tables.old.trains.now tables.old.stops.now }
+        ensures same_train_table { tables.new.trains.ghost_name ≡ tables.old.trains.ghost_name }
+        ensures same_stop_table { tables.new.stops.ghost_name ≡ tables.old.stops.ghost_name }
     {
         match self {
             Stage::Between(book) => {
-                match book.begin(trains, stops, line.number, line.code, line.features) {
-                    Ok(entry) => take_stop(entry, trains, stops, line.stop, number),
+                match tables.begin(book, line.number, line.code, line.features) {
+                    Ok(entry) => take_stop(entry, tables, line.stop, number),
                     Err(refused) => Err(refused_at(number, refused)),
                 }
             }
             Stage::Inside(entry) if is_of(&line, &entry) => {
-                take_stop(entry, trains, stops, line.stop, number)
+                take_stop(entry, tables, line.stop, number)
             }
             Stage::Inside(entry) => Err(Misread {
                 book: entry.abandon(),

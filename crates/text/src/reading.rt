@@ -13,6 +13,7 @@ use crate::reader::{Lines, Reader};
 use crate::saying::said;
 use crate::stage::Stage;
 use book::histories::every_history_holds;
+use book::lending::LentTables;
 use book::rows::{StopRow, TrainRow};
 use book::state::Book;
 
@@ -40,18 +41,15 @@ fn wrong_names(book: Book) -> Misread
 }
 
 // What comes of a line.
-fn read_line(
-    stage: Stage,
-    reader: Reader,
-    trains: &mut [TrainRow],
-    stops: &mut [StopRow],
-) -> Result<Stage, Misread>
+fn read_line(stage: Stage, reader: Reader, tables: &mut LentTables) -> Result<Stage, Misread>
     requires whole { reader.left.now ≡ reader.line.now }
-    ensures { left result trains.new stops.new ≡ after_saying reader.entry.number (says reader.entry.number (line_with reader.entry.has_feed reader.entry.line.now)) stage trains.old stops.old }
+    ensures outcome { left result tables.new.trains.now tables.new.stops.now ≡ after_saying reader.entry.number (says reader.entry.number (line_with reader.entry.has_feed reader.entry.line.now)) stage tables.old.trains.now tables.old.stops.now }
+    ensures same_train_table { tables.new.trains.ghost_name ≡ tables.old.trains.ghost_name }
+    ensures same_stop_table { tables.new.stops.ghost_name ≡ tables.old.stops.ghost_name }
 {
     let number = reader.number();
     match said(reader) {
-        Ok(line) => stage.take(trains, stops, line, number),
+        Ok(line) => stage.take(tables, line, number),
         Err(fault) => Err(Misread {
             book: stage.into_book(),
             fault,
@@ -60,31 +58,25 @@ fn read_line(
 }
 
 // The lines that are left, the first of which begins a train.
-fn read_lines(
-    book: Book,
-    mut text: Lines,
-    trains: &mut [TrainRow],
-    stops: &mut [StopRow],
-) -> Result<Book, Misread>
-    ensures { left result trains.new stops.new ≡ reading text.entry.count (lines text.entry.left.now) (Between book) trains.old stops.old }
+fn read_lines(book: Book, mut text: Lines, tables: &mut LentTables) -> Result<Book, Misread>
+    ensures outcome { left result tables.new.trains.now tables.new.stops.now ≡ reading text.entry.count (lines text.entry.left.now) (Between book) tables.old.trains.now tables.old.stops.now }
+    ensures same_train_table { tables.new.trains.ghost_name ≡ tables.old.trains.ghost_name }
+    ensures same_stop_table { tables.new.stops.ghost_name ≡ tables.old.stops.ghost_name }
 {
     let mut stage = Stage::Between(book);
     while let Some(reader) = text.next_line() {
-        stage = read_line(stage, reader, trains, stops)?;
+        stage = read_line(stage, reader, tables)?;
     }
     stage.end(text.count())
 }
 
 // The whole text, the tables first.
-fn read_text(
-    book: Book,
-    trains: &mut [TrainRow],
-    stops: &mut [StopRow],
-    text: &[u8],
-) -> Result<Book, Misread>
-    ensures { left result trains.new stops.new ≡ read text.now book trains.old stops.old }
+fn read_lent(book: Book, tables: &mut LentTables, text: &[u8]) -> Result<Book, Misread>
+    ensures outcome { left result tables.new.trains.now tables.new.stops.now ≡ read text.now book tables.old.trains.now tables.old.stops.now }
+    ensures same_train_table { tables.new.trains.ghost_name ≡ tables.old.trains.ghost_name }
+    ensures same_stop_table { tables.new.stops.ghost_name ≡ tables.old.stops.ghost_name }
 {
-    if let Err(refusal) = book.check(trains, stops) {
+    if let Err(refusal) = tables.check(&book) {
         return Err(Misread {
             book,
             fault: Fault {
@@ -98,7 +90,20 @@ fn read_text(
     if !is_names(lines.next_line()) {
         return Err(wrong_names(book));
     }
-    read_lines(book, lines, trains, stops)
+    read_lines(book, lines, tables)
+}
+
+// The same, into the tables as the caller has them.
+fn read_text(
+    book: Book,
+    trains: &mut [TrainRow],
+    stops: &mut [StopRow],
+    text: &[u8],
+) -> Result<Book, Misread>
+    ensures { left result trains.new stops.new ≡ read text.now book trains.old stops.old }
+{
+    let mut tables = LentTables::over(trains, stops);
+    read_lent(book, &mut tables, text)
 }
 
 // Adds the trains of the text to the book. On a fault, the trains that were finished ahead of it are in the book, and an

@@ -10,14 +10,24 @@ returns-in_err-stage c =
     let e = c.in-Some.ensures in
     let some : 0 < length l.text.left.now = search rules in
     let handed_on = err_from_is_err_and c.from_residual.result c.from_residual.ensures.1 in
+    let t = c.read_line.new.tables in
     rw (handed_on.1, handed_on.2)
-    (line_in_turn l.text.count _ _ l.text.left.now _ _ _ l.stage l.trains l.stops (left (Err c.in_err-stage.field-0.0) c.read_line.new.trains c.read_line.new.stops)
-    some e.number e.count e.line e.feed e.left c.in_err-stage.ensures ∙ l.invariant)
+    (record {
+      outcome = line_in_turn l.text.count _ _ l.text.left.now _ _ _ l.stage l.tables.trains.now l.tables.stops.now (left (Err c.in_err-stage.field-0.0) t.trains.now t.stops.now)
+          some e.number e.count e.line e.feed e.left c.in_err-stage.ensures.outcome ∙ l.invariant.outcome;
+      same_train_table = c.in_err-stage.ensures.same_train_table ∙ l.invariant.same_train_table;
+      same_stop_table = c.in_err-stage.ensures.same_stop_table ∙ l.invariant.same_stop_table;
+    })
 
 pub loop-reader-preserved : goal.loop-reader-preserved
 loop-reader-preserved c =
     let l = c.loop-reader in
     let e = c.in-Some.ensures in
     let some : 0 < length l.text.left.now = search rules in
-    line_in_turn l.text.count _ _ l.text.left.now _ _ _ l.stage l.trains l.stops (left (Ok c.in_ok-stage.stage) c.read_line.new.trains c.read_line.new.stops)
-    some e.number e.count e.line e.feed e.left c.in_ok-stage.ensures ∙ l.invariant
+    let t = c.read_line.new.tables in
+    record {
+      outcome = line_in_turn l.text.count _ _ l.text.left.now _ _ _ l.stage l.tables.trains.now l.tables.stops.now (left (Ok c.in_ok-stage.stage) t.trains.now t.stops.now)
+          some e.number e.count e.line e.feed e.left c.in_ok-stage.ensures.outcome ∙ l.invariant.outcome;
+      same_train_table = c.in_ok-stage.ensures.same_train_table ∙ l.invariant.same_train_table;
+      same_stop_table = c.in_ok-stage.ensures.same_stop_table ∙ l.invariant.same_stop_table;
+    }
