@@ -7,7 +7,8 @@ use desk::asked::Asked;
 use desk::leg::leg_of;
 use desk::question::{Question, asked_by};
 use search::record::WorkRecord;
-use search::search;
+use search::search_in;
+use search::work_table::WorkTable;
 use std::fmt;
 use std::io::{BufRead, BufReader};
 use tariff::Tariff;
@@ -25,21 +26,21 @@ const UNUSED: Ride = Ride {
     alight: 0,
 };
 
-// The tables that searches work in, one for each tariff. They grow to the longest that a query needs, and are lent to one
+// The tables that searches work in, one for each tariff. A table grows to the longest that a query needs, and serves one
 // query after another.
 #[derive(Drop)]
 struct WorkTables {
-    minutes: Vec<WorkRecord<MinuteTotal>>,
-    fares: Vec<WorkRecord<FareTotal>>,
-    waits: Vec<WorkRecord<WaitTotal>>,
+    minutes: WorkTable<MinuteTotal>,
+    fares: WorkTable<FareTotal>,
+    waits: WorkTable<WaitTotal>,
 }
 
 impl WorkTables {
     fn new(rt: &HostRuntime) -> WorkTables {
         WorkTables {
-            minutes: Vec::new(rt.alloc()),
-            fares: Vec::new(rt.alloc()),
-            waits: Vec::new(rt.alloc()),
+            minutes: WorkTable::new(Vec::new(rt.alloc())),
+            fares: WorkTable::new(Vec::new(rt.alloc())),
+            waits: WorkTable::new(Vec::new(rt.alloc())),
         }
     }
 }
@@ -51,7 +52,7 @@ fn print_found<P: Tariff, C: Calendar>(
     tariff: &P,
     calendar: &C,
     query: Query,
-    work: &mut Vec<WorkRecord<P::Total>>,
+    work: &mut WorkTable<P::Total>,
 ) -> anyhow::Result<()>
 where
     P::Total: fmt::Display,
@@ -65,17 +66,10 @@ where
     let mut rides = [UNUSED; MOST_RIDES];
     let records = timetable.records_for(query);
     if work.len() < records {
-        work.resize(records, WorkRecord::blank())?;
+        *work = WorkTable::new(vec![in rt.alloc(); WorkRecord::blank(); records]?);
     }
-    match search(
-        book,
-        trains,
-        stops,
-        tariff,
-        calendar,
-        query,
-        &mut rides,
-        &mut work[..records],
+    match search_in(
+        book, trains, stops, tariff, calendar, query, &mut rides, work,
     ) {
         Ok((total, count)) => {
             for ride in &rides[..count] {

@@ -5,10 +5,12 @@ use Rattle.std.proofs.lemmas.Bool.{cases_lt}
 use Rattle.std.specs.Option.{is_none}
 use Rattle.connection.specs.declared.label.Label.{Label}
 use Rattle.connection.proofs.Tests.{both_left, both_right}
+use Rattle.search.specs.Answers.{work_left}
 use Rattle.search.specs.Layers.{BlankFrom}
 use Rattle.search.specs.Records.{blank, is_blank, record_of, label_of}
 use Rattle.search.specs.Working.{label_at}
 use Rattle.search.specs.declared.record.WorkRecord.{WorkRecord}
+use Rattle.search.specs.declared.refusal.Refusal.{Refusal}
 
 module _ {A : Type 0} where
   pub blank_less : (b c : ℕ) (table : List (WorkRecord A)) → b ≤ c → BlankFrom b table → BlankFrom c table
@@ -73,3 +75,8 @@ module _ {A : Type 0} where
       go : (t : Option A) → r.total ≡ t → r.board ≡ 0 → r.from ≡ 0 → r ≡ blank
       go None et eb ef = same r et eb ef
       go (Some x) et eb ef = absurd (subst (λ (o : Option A). T (is_none o)) et none)
+
+  -- a search leaves a blank table blank
+  pub left_blank : (refusal : Option Refusal) (table : List (WorkRecord A)) → BlankFrom 0 table → work_left refusal table ≡ table
+  left_blank (Some r) table h = refl
+  left_blank None table h = sym (all_blank 0 table (omega arith) h)

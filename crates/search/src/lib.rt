@@ -13,11 +13,12 @@
 // that costs as much as that one is not followed. `trail` reads the rides back.
 #![tactic(auto)]
 
-ghost use Rattle.std.specs.Prelude.{◌≡◌, List, length};
+ghost use Rattle.std.specs.Prelude.{◌≡◌, true, List, length};
 ghost use Rattle.book.specs.Histories.{History, Closed, LeadsOn};
 ghost use Rattle.book.specs.PlainList.{Call, reads, in_force};
 ghost use Rattle.book.specs.Trains.{listed};
 ghost use Rattle.search.specs.Answers.{Answered, FoundOrNone, Guarantee, rides_left, work_left};
+ghost use Rattle.search.specs.Layers.{BlankFrom};
 ghost use Rattle.search.specs.Refusals.{search_refusal};
 
 mod asking;
@@ -39,6 +40,7 @@ mod riding;
 mod run;
 mod table;
 mod trail;
+pub mod work_table;
 
 use book::histories::every_history_holds;
 use book::rows::{StopRow, TrainRow};
@@ -52,6 +54,7 @@ use judging::judge;
 use record::WorkRecord;
 use refusal::Refusal;
 use tariff::Tariff;
+use work_table::WorkTable;
 
 // Looks for the cheapest connection of the query among the trains of the book, under any tariff and any calendar. It
 // answers the total and the number of rides, which stand at the front of `rides`, each train named by its row from 0.
@@ -76,6 +79,60 @@ pub fn search<P: Tariff, C: Calendar>(
     ensures guarantee { (calls : List Call) → History (length trains.now) (length stops.now) calls (Closed book.now) trains.now stops.now → Guarantee (P.Tariff.meaning tariff.now) (C.Calendar.runs calendar.now) (in_force (length trains.now) (length stops.now) calls).trains query (length rides.old) (length work.old) result rides.new }
     ensures history { LeadsOn (Closed book.now) trains.now stops.now reads (Closed book.now) trains.now stops.now }
 {
+    search_over(
+        book, trains, stops, tariff, calendar, query, rides, work, false,
+    )
+}
+
+// The same in a work table that is blank, and stays so.
+pub fn search_in<P: Tariff, C: Calendar>(
+    book: &Book,
+    trains: &[TrainRow],
+    stops: &[StopRow],
+    tariff: &P,
+    calendar: &C,
+    query: Query,
+    rides: &mut [Ride],
+    work: &mut WorkTable<P::Total>,
+) -> Result<(P::Total, usize), Refusal>
+    ensures answer { Answered (search_refusal book.now trains.now stops.now query (length rides.old) (length work.old.records.items)) (λ found. FoundOrNone (P.Tariff.meaning tariff.now) (C.Calendar.runs calendar.now) (listed book.now.trains trains.now stops.now) query found rides.new) result }
+    ensures rides { rides.new ≡ rides_left result rides.old rides.new }
+    ensures work { work.new.records.items ≡ work.old.records.items }
+    ensures guarantee { (calls : List Call) → History (length trains.now) (length stops.now) calls (Closed book.now) trains.now stops.now → Guarantee (P.Tariff.meaning tariff.now) (C.Calendar.runs calendar.now) (in_force (length trains.now) (length stops.now) calls).trains query (length rides.old) (length work.old.records.items) result rides.new }
+    ensures history { LeadsOn (Closed book.now) trains.now stops.now reads (Closed book.now) trains.now stops.now }
+{
+    search_over(
+        book,
+        trains,
+        stops,
+        tariff,
+        calendar,
+        query,
+        rides,
+        &mut work.records,
+        true,
+    )
+}
+
+// As `search`, in a table of which it may be known that it is blank.
+fn search_over<P: Tariff, C: Calendar>(
+    book: &Book,
+    trains: &[TrainRow],
+    stops: &[StopRow],
+    tariff: &P,
+    calendar: &C,
+    query: Query,
+    rides: &mut [Ride],
+    work: &mut [WorkRecord<P::Total>],
+    is_blank: bool,
+) -> Result<(P::Total, usize), Refusal>
+    requires blank { is_blank ≡ true → BlankFrom 0 work.old }
+    ensures answer { Answered (search_refusal book.now trains.now stops.now query (length rides.old) (length work.old)) (λ found. FoundOrNone (P.Tariff.meaning tariff.now) (C.Calendar.runs calendar.now) (listed book.now.trains trains.now stops.now) query found rides.new) result }
+    ensures rides { rides.new ≡ rides_left result rides.old rides.new }
+    ensures work { work.new ≡ work_left (search_refusal book.now trains.now stops.now query (length rides.old) (length work.old)) work.old }
+    ensures guarantee { (calls : List Call) → History (length trains.now) (length stops.now) calls (Closed book.now) trains.now stops.now → Guarantee (P.Tariff.meaning tariff.now) (C.Calendar.runs calendar.now) (in_force (length trains.now) (length stops.now) calls).trains query (length rides.old) (length work.old) result rides.new }
+    ensures history { LeadsOn (Closed book.now) trains.now stops.now reads (Closed book.now) trains.now stops.now }
+{
     // rows that pass the check keep the rules, and after every history they hold the trains in force
     every_history_holds();
     book.check(trains, stops)?;
@@ -88,6 +145,8 @@ pub fn search<P: Tariff, C: Calendar>(
         trains,
         stops,
     };
-    blank_all(work);
+    if !is_blank {
+        blank_all(work);
+    }
     inquiry.cheapest(calendar, rides, work)
 }

@@ -7,7 +7,8 @@ use Rattle.search.specs.Refusals.{search_refusal}
 use Rattle.search.proofs.BlankRecords.{blank_replicate}
 use Rattle.search.proofs.Guaranteed.{passed, refused_first, refused_alike, askable, guaranteed, answers_refusal, answers_found, leaves_work, blanks_work, handed}
 use Rattle.search.proofs.Prefix.{trains_fit, stops_fit}
-use Rattle.search.proofs.search.Goals as goal
+use Rattle.search.proofs.search_over.Goals as goal
+use Rattle.search.proofs.search_over.Goals.{then-not-is_blank, else-not-is_blank}
 
 pub returns-in_err-check-clause-answer : goal.returns-in_err-check-clause-answer
 returns-in_err-check-clause-answer g c =
@@ -71,7 +72,11 @@ invariant_of-inquiry g c =
     }
 
 pub cheapest-requires-clause-blank : goal.cheapest-requires-clause-blank
-cheapest-requires-clause-blank g c = subst (BlankFrom 0) (sym c.blank_all.ensures) (blank_replicate (length c.args.work.now))
+cheapest-requires-clause-blank g c =
+    elim c.if-not-is_blank.branch [
+      | then-not-is_blank w ↦ subst (BlankFrom 0) (sym (w.work-is ∙ w.blank_all.ensures)) (blank_replicate (length c.args.work.now))
+      | else-not-is_blank w ↦ subst (BlankFrom 0) (sym w.work-is) (c.requires.blank w.if-not-is_blank.false)
+    ]
 
 pub returns : goal.returns
 returns g c =
@@ -85,7 +90,7 @@ returns g c =
     record {
       answer = answer;
       rides = c.cheapest.ensures.rides;
-      work = blanks_work _ a.work.now c.blank_all.new.work c.cheapest.new.work passes (omega arith) c.cheapest.ensures.work;
+      work = blanks_work _ a.work.now c.if-not-is_blank.work c.cheapest.new.work passes (omega arith) c.cheapest.ensures.work;
       guarantee = λ calls h. guaranteed (g.P.Tariff.meaning a.tariff.now) (g.C.Calendar.runs a.calendar.now) a.query (length a.rides.now) (length a.work.now) c.cheapest.new.rides a.book.now a.trains.now a.stops.now c.cheapest.result answer _ (c.every_history_holds.ensures.rows _ _ calls _ _ _ h).0;
       history = c.check.ensures.history;
     }
