@@ -1,5 +1,5 @@
 -- The best change of a chain is the best change at its station.
-use Rattle.std.proofs.Common.{◌≡◌, ℕ, suc, ◌+◌, ◌*◌, ◌<◌, ◌≤◌, Bool, true, false, ◌&&◌, ◌||◌, T, List, length, Some, None, Option, sym, refl, ap, ◌∙◌, subst, inl, inr, arith}
+use Rattle.std.proofs.Common.{◌≡◌, ℕ, suc, ◌+◌, ◌*◌, ◌<◌, ◌≤◌, Bool, true, false, ◌&&◌, ◌||◌, T, List, length, get_or, Some, None, Option, sym, refl, ap, ◌∙◌, subst, inl, inr, arith}
 use Rattle.std.proofs.lemmas.Bool.{cases_lt}
 use Rattle.std.proofs.lemmas.Option.{same_Some}
 use Rattle.tariff.specs.Laws.{Connex, Transitive}
@@ -15,9 +15,10 @@ use Rattle.connection.specs.declared.label.Label.{Label}
 use Rattle.connection.specs.declared.ride.Shift.{Shift}
 use Rattle.connection.proofs.Best.{refl_from, best_same, best_cheaper}
 use Rattle.connection.proofs.Tests.{both_left, both_right, both_from}
-use Rattle.search.specs.Chains.{ArrivesAt, Link, behind}
+use Rattle.search.specs.Chains.{ArrivesAt, Link, Chained, behind}
 use Rattle.search.specs.Changing.{changed, ChangesAt, Changes}
 use Rattle.search.specs.Working.{place}
+use Rattle.search.specs.declared.chains.Arrivals.{Arrivals}
 use Rattle.search.proofs.Chosen.{chosen_connex, chosen_trans}
 use Rattle.search.proofs.RowsAreTrains.{place_below, same_place}
 
@@ -95,6 +96,14 @@ module _ {A : Type 0} (m : Meaning A) (connex : Connex m) (transitive : Transiti
   pub changes_all : (best : Option (Label A)) → Best (no_dearer m) (From 0) best → Best (no_dearer m) (Changes m stops label station until board) best
   changes_all best b =
       best_same (no_dearer m) (From 0) (Changes m stops label station until board) best (λ l c. (c.0, (c.1, c.3))) (λ l c. (c.0, c.1.0, omega arith, c.1.1)) b
+
+-- where nobody has come to the station, there is no change
+pub no_changes : {A : Type 0} (m : Meaning A) (stops : List StopRow) (label : Shift → ℕ → Option (Label A)) (arrivals : Arrivals) (station until board : ℕ) → Chained stops label (3 * length stops) arrivals → station ≤ 1023 → get_or arrivals.heads station None ≡ None → Best (no_dearer m) (Changes m stops label station until board) None
+no_changes m stops label arrivals station until board chained known none l c =
+    let link = subst (Link stops label station (3 * length stops)) none (chained.first station known) in
+    let there = c.1.1 in
+    let z : ◌≡◌ {A = ℕ} 0 1 = cc (sym there.held ∙ link.passed_over c.0 c.1.0 there.inside (omega arith) (place_below c.0 (length stops) c.1.0 there.inside) there.here) in
+    absurd (omega arith)
 
 -- the station of a place is that of the row that it stands for
 pub arrives_here : {A : Type 0} (stops : List StopRow) (label : Shift → ℕ → Option (Label A)) (station x : ℕ) (s : Shift) (row : ℕ) → ArrivesAt stops label station x → row < length stops → x ≡ place (length stops) s row → (stop_at stops row).station ≡ station

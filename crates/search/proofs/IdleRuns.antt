@@ -1,5 +1,5 @@
 -- Nobody is on board a run that nobody boards, so its blank records settle its stops.
-use Rattle.std.proofs.Common.{◌≡◌, ℕ, zero, suc, ◌+◌, ◌*◌, ◌<◌, ◌≤◌, false, ◌&&◌, List, length, None, Option, sym, refl, ap, subst, add_assoc, arith}
+use Rattle.std.proofs.Common.{◌≡◌, ℕ, zero, suc, ◌+◌, ◌*◌, ◌<◌, ◌≤◌, ◌-◌, Bool, true, false, ◌&&◌, List, length, None, Option, sym, refl, ap, subst, add_assoc, arith}
 use Rattle.tariff.specs.Meaning.{Meaning}
 use Rattle.book.specs.Answers.{train_row}
 use Rattle.book.specs.Rules.{stop_at}
@@ -7,24 +7,28 @@ use Rattle.book.specs.Trains.{Train, trains_in}
 use Rattle.book.specs.declared.rows.StopRow.{StopRow}
 use Rattle.book.specs.declared.rows.TrainRow.{TrainRow}
 use Rattle.calendar.specs.Pairs.{Pairs}
-use Rattle.connection.specs.Rides.{may_board, stops_at}
+use Rattle.connection.specs.Clock.{midnight}
+use Rattle.connection.specs.Rides.{may_board, departure, stops_at}
 use Rattle.connection.specs.Settled.{SettlesBoarding}
 use Rattle.connection.specs.declared.query.Query.{Query}
 use Rattle.connection.specs.declared.ride.Shift.{Shift}
 use Rattle.connection.proofs.Onward.{settles_first_stop, settles_next_stop}
 use Rattle.connection.proofs.Times.{Punctual, on_time}
+use Rattle.search.specs.Chains.{LinkedBefore, Unreached}
 use Rattle.search.specs.Ends.{known_total}
-use Rattle.search.specs.Layers.{row_of, Trail, Holds, BlankFrom, Fills, RunAsked, run_begins, run_ends}
+use Rattle.search.specs.Layers.{row_of, Trail, Holds, Filled, BlankFrom, Fills, RunAsked, run_begins, run_ends}
 use Rattle.search.specs.Working.{may_use, number, place, layer_at, part_at, label_in}
+use Rattle.search.specs.declared.chains.Arrivals.{Arrivals}
 use Rattle.search.specs.declared.reached.Reached.{Reached}
 use Rattle.search.specs.declared.record.WorkRecord.{WorkRecord}
 use Rattle.search.proofs.Basis.{Basis}
+use Rattle.search.proofs.BestChange.{no_changes}
 use Rattle.search.proofs.BlankRecords.{blank_less, blank_label}
 use Rattle.search.proofs.Chaining.{chained_over}
 use Rattle.search.proofs.FillingRuns.{of_the_run}
 use Rattle.search.proofs.KnownEnds.{known_over}
-use Rattle.search.proofs.RowsAreTrains.{count_is}
-use Rattle.search.proofs.WaysToBoard.{boards_nothing}
+use Rattle.search.proofs.RowsAreTrains.{fits, count_is}
+use Rattle.search.proofs.WaysToBoard.{boards_nothing, boards_later}
 
 module _ {A : Type 0} (m : Meaning A) (q : Query) (rows : List TrainRow) (stops : List StopRow) (basis : Basis m rows stops) (layer n : ℕ) (s : Shift) (ln : n < length rows) (table : List (WorkRecord A)) where
   abbrev size : ℕ
@@ -48,9 +52,9 @@ module _ {A : Type 0} (m : Meaning A) (q : Query) (rows : List TrainRow) (stops 
     no_label s' row low =
         blank_label (layer_at size layer + run_begins rows size n s) (part_at size layer s' + row) table blank (omega (arith, low, add_assoc (layer_at size layer) (number s' * size) row))
 
-    -- the query may not use the run
-    pub fills_idle : Fills m q rows stops layer (RunAsked q (train_row n rows) s false) table table (run_begins rows size n s) (run_ends rows size n s) false before before
-    fills_idle =
+    -- nobody boards the run where the calendar says what May tells
+    fills : (May : Pairs → Type 0) → ((runs : Pairs) → May runs → Filled m runs q rows stops (known_total before.end) table layer → (i : ℕ) → i < (train_row n rows).count → SettlesBoarding m trains runs q (Trail rows size table layer) (known_total before.end) layer n s i None) → Fills m q rows stops layer May table table (run_begins rows size n s) (run_ends rows size n s) false before before
+    fills May none =
         let begins : layer_at size layer + run_begins rows size n s ≤ layer_at size layer + run_ends rows size n s = omega arith in
         record {
           unchanged = λ z h. refl;
@@ -62,8 +66,30 @@ module _ {A : Type 0} (m : Meaning A) (q : Query) (rows : List TrainRow) (stops 
           settled = λ runs may filled n' s' i' ln' li' low high.
               subst (Holds m runs q rows stops (known_total before.end) table layer n' s' i') (sym (no_label s' (row_of rows n' i') low))
               (of_the_run m q rows stops layer n s before basis ln (λ k t j. Holds m runs q rows stops (known_total before.end) table layer k t j None) n' s' i' ln' li' low high
-              (idle runs (known_total before.end) (λ i li. boards_nothing m rows stops basis runs q (known_total before.end) n s i ln li (Trail rows size table layer) layer (unused runs may i))));
+              (idle runs (known_total before.end) (none runs may filled)));
         }
+
+    -- the query may not use it
+    pub fills_unused : Fills m q rows stops layer (RunAsked q (train_row n rows) s false) table table (run_begins rows size n s) (run_ends rows size n s) false before before
+    fills_unused =
+        fills (RunAsked q (train_row n rows) s false)
+        (λ runs may filled i li. boards_nothing m rows stops basis runs q (known_total before.end) n s i ln li (Trail rows size table layer) layer (ap (λ b. b && may_board (stop_at stops (row_of rows n i))) (sym may)))
+
+    -- it may, but nobody has come to a station of it
+    pub fills_unreached : (arrivals : Arrivals) → LinkedBefore stops table layer arrivals → Unreached rows stops layer arrivals n → Fills m q rows stops layer (RunAsked q (train_row n rows) s true) table table (run_begins rows size n s) (run_ends rows size n s) false before before
+    fills_unreached arrivals linked none = fills (RunAsked q (train_row n rows) s true) nobody
       where
-        unused : (runs : Pairs) → RunAsked q (train_row n rows) s false runs → (i : ℕ) → (may_use runs q (train_row n rows) s && may_board (stop_at stops (row_of rows n i))) ≡ false
-        unused runs may i = ap (λ b. b && may_board (stop_at stops (row_of rows n i))) (sym may)
+        before_it : layer - 1 + 1 ≡ layer
+        before_it = omega (arith, none.later)
+
+        go : (b : Bool) (runs : Pairs) (i : ℕ) → i < (train_row n rows).count → Filled m runs q rows stops (known_total before.end) table layer → (may_use runs q (train_row n rows) s && may_board (stop_at stops (row_of rows n i))) ≡ b → SettlesBoarding m trains runs q (Trail rows size table layer) (known_total before.end) layer n s i None
+        go false runs i li filled e = boards_nothing m rows stops basis runs q (known_total before.end) n s i ln li (Trail rows size table layer) layer e
+        go true runs i li filled e =
+            let row = row_of rows n i in
+            let inside : row < size = omega (arith, fits rows stops basis.timetable.ordered n ln) in
+            let until = departure (stop_at stops row) + midnight s in
+            boards_later m rows stops basis runs q (known_total before.end) layer (layer - 1) table n s i until None before_it filled ln li e refl
+            (no_changes m stops (label_in size table (layer - 1)) arrivals (stop_at stops row).station until i (linked none.later) (basis.timetable.timely.stations row inside) (none.nobody i li))
+
+        nobody : (runs : Pairs) → RunAsked q (train_row n rows) s true runs → Filled m runs q rows stops (known_total before.end) table layer → (i : ℕ) → i < (train_row n rows).count → SettlesBoarding m trains runs q (Trail rows size table layer) (known_total before.end) layer n s i None
+        nobody runs may filled i li = go (may_use runs q (train_row n rows) s && may_board (stop_at stops (row_of rows n i))) runs i li filled refl

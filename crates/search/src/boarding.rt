@@ -1,5 +1,5 @@
 // Boarding a run: at the origin, or after a change.
-ghost use Rattle.std.specs.Prelude.{◌≡◌, ◌+◌, ◌-◌, ◌*◌, ◌<◌, ◌≤◌, ◌&&◌, length, true, Option, Some, ◌==◌, nat_le};
+ghost use Rattle.std.specs.Prelude.{◌≡◌, ◌+◌, ◌-◌, ◌*◌, ◌<◌, ◌≤◌, ◌&&◌, length, true, false, Option, Some, ◌==◌, nat_le};
 ghost use Rattle.tariff.specs.declared.step.Kind.TheVariants.{Start as AtStart};
 ghost use Rattle.book.specs.Answers.{train_row};
 ghost use Rattle.book.specs.Limits.{last_station};
@@ -14,7 +14,7 @@ ghost use Rattle.connection.specs.Rides.{arrival, departure, may_alight, can_cat
 ghost use Rattle.connection.specs.Settled.{no_dearer, SettlesBoarding};
 ghost use Rattle.connection.specs.Ways.{Best};
 ghost use Rattle.search.specs.Changing.{changed, Changes};
-ghost use Rattle.search.specs.Chains.{Chained, LinkedBefore};
+ghost use Rattle.search.specs.Chains.{Chained, LinkedBefore, Unreached};
 ghost use Rattle.search.specs.Layers.{Trail, Filled, RunAsked};
 ghost use Rattle.search.specs.Working.{place as place_of, label_in, HasLayers};
 
@@ -33,6 +33,23 @@ use tariff::Tariff;
 use tariff::step::Kind;
 
 impl<P: Tariff> Inquiry<'_, P> {
+    // Whether somebody has come to a station of the train with a change less; else nobody boards it. In the first layer one
+    // may start anywhere.
+    pub fn may_be_boarded(&self, layer: Layer, arrivals: &Arrivals, train: usize) -> bool
+        requires in_force { train < length self.now.trains.now }
+        ensures unless { result ≡ false → Unreached self.now.trains.now self.now.stops.now layer.number arrivals.now train }
+    {
+        if layer.number == 0 {
+            return true;
+        }
+        for stop in self.trains[train].stops(self.stops) {
+            if arrivals.heads[stop.station as usize].is_some() {
+                return true;
+            }
+        }
+        false
+    }
+
     // The label of who boards the run at its stop `i`, after as many changes as the layer has, if the query may use the run.
     pub fn boarding(
         &self,

@@ -69,7 +69,7 @@ impl<P: Tariff> Inquiry<'_, P> {
         found
     }
 
-    // Does so for all runs of one shift. Nobody is on board a run that the query may not use.
+    // Does so for all runs of one shift. Nobody is on board a run that the query may not use, or that nobody can board.
     fn fill_shift(
         &self,
         work: &mut [WorkRecord<P::Total>],
@@ -87,7 +87,7 @@ impl<P: Tariff> Inquiry<'_, P> {
     {
         let mut found = false;
         for (train, usable) in usable[..self.trains.len()].iter().enumerate() {
-            if *usable {
+            if *usable && self.may_be_boarded(layer, arrivals, train) {
                 let run = Run { train, shift };
                 found |= self.fill_run(work, layer, arrivals, run, reached);
             }

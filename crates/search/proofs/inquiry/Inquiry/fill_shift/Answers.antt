@@ -2,15 +2,16 @@ use Rattle.std.proofs.Common.{ℕ, ◌+◌, ◌-◌, false, length, sym, ap, ◌
 use Rattle.std.proofs.Math.Bool.{or-false}
 use Rattle.std.proofs.lemmas.List.{length-take-le, get_or-take}
 use Rattle.book.specs.Answers.{train_row}
+use Rattle.search.specs.Chains.{LinkedBefore}
 use Rattle.search.specs.Layers.{Fills, ShiftAsked, BlankFrom}
 use Rattle.search.specs.Working.{place, layer_at}
 use Rattle.search.proofs.Basis.{Basis, timetable_of}
 use Rattle.search.proofs.FillingLayers.{fills_none, fills_then}
-use Rattle.search.proofs.IdleRuns.{fills_idle}
+use Rattle.search.proofs.IdleRuns.{fills_unused, fills_unreached}
 use Rattle.search.proofs.RowsAreTrains.{first_first, next_first, last_ends, none_none}
 use Rattle.search.proofs.Unchanged.{linked_same}
 use Rattle.search.proofs.inquiry.Inquiry.fill_shift.Goals as goal
-use Rattle.search.proofs.inquiry.Inquiry.fill_shift.Goals.{then-usable, else-usable}
+use Rattle.search.proofs.inquiry.Inquiry.fill_shift.Goals.{then-usable+then-may_be_boarded, else-usable, else-usable-via-then-usable+else-may_be_boarded, else-usable-via-else-usable}
 
 pub loop-train-init : goal.loop-train-init
 loop-train-init g c =
@@ -46,20 +47,29 @@ loop-train-preserved g c =
     let m = g.P.Tariff.meaning t in
     let train = train_row l.train s.trains.now in
     let long = length-take-le count a.usable.now c.requires.each in
+    let basis : Basis m s.trains.now s.stops.now = record { connex = laws.connex t; transitive = laws.transitive t; grows = laws.grows t; keeps = laws.keeps t; starts = laws.starts t; counts = laws.counts t; timetable = timetable_of s } in
     let asked = get_or-take count a.usable.now l.train false (omega arith) in
     let here = l.invariant.2 (omega arith) in
-    let before = subst (λ (r : ℕ). Fills (g.P.Tariff.meaning s.tariff.now) s.query.now s.trains.now s.stops.now a.layer.number (ShiftAsked s.query.now s.trains.now a.shift a.usable.now) a.work.now l.work (place size a.shift 0) (place size a.shift r) l.found a.reached.now l.reached) (sym here) l.invariant.1 in (
+    let before = subst (λ (r : ℕ). Fills (g.P.Tariff.meaning s.tariff.now) s.query.now s.trains.now s.stops.now a.layer.number (ShiftAsked s.query.now s.trains.now a.shift a.usable.now) a.work.now l.work (place size a.shift 0) (place size a.shift r) l.found a.reached.now l.reached) (sym here) l.invariant.1 in
+    let blank = subst (λ (r : ℕ). BlankFrom (layer_at size a.layer.number + place size a.shift r) l.work) (sym here) (l.invariant.1.blank c.requires.blank) in
+    let linked : LinkedBefore s.stops.now l.work a.layer.number a.arrivals.now = λ later. linked_same s.stops.now a.layer.number (a.layer.number - 1) a.work.now l.work a.arrivals.now (omega arith) (λ z h. l.invariant.1.unchanged z (omega arith)) (c.requires.linked later) in (
       train.first + train.count,
       elim c.if-usable.branch [
-        | then-usable w ↦
+        | then-usable+then-may_be_boarded w ↦
             rw (w.work-is, w.reached-is, w.found-is)
             (fills_then s.ordered before w.fill_run-found.ensures (λ runs may. sym w.if-usable.true ∙ asked ∙ may l.train (omega arith)) (omega arith))
         | else-usable w ↦
-            let blank = subst (λ (r : ℕ). BlankFrom (layer_at size a.layer.number + place size a.shift r) l.work) (sym here) (l.invariant.1.blank c.requires.blank) in
-            let basis : Basis m s.trains.now s.stops.now = record { connex = laws.connex t; transitive = laws.transitive t; grows = laws.grows t; keeps = laws.keeps t; starts = laws.starts t; counts = laws.counts t; timetable = timetable_of s } in
-            let idle = fills_idle m s.query.now s.trains.now s.stops.now basis a.layer.number l.train a.shift (omega arith) l.work l.reached blank in
-            rw (w.work-is, w.reached-is, w.found-is ∙ sym (or-false l.found))
-            (fills_then s.ordered before idle (λ runs may. sym w.if-usable.false ∙ asked ∙ may l.train (omega arith)) (omega arith))
+            elim w.else-usable.branch [
+              | else-usable-via-then-usable+else-may_be_boarded w' ↦
+                  let none = w'.may_be_boarded.ensures.unless w'.if-may_be_boarded.false in
+                  let idle = fills_unreached m s.query.now s.trains.now s.stops.now basis a.layer.number l.train a.shift (omega arith) l.work l.reached blank a.arrivals.now linked none in
+                  rw (w.work-is, w.reached-is, w.found-is ∙ sym (or-false l.found))
+                  (fills_then s.ordered before idle (λ runs may. sym w'.if-usable.true ∙ asked ∙ may l.train (omega arith)) (omega arith))
+              | else-usable-via-else-usable w' ↦
+                  let idle = fills_unused m s.query.now s.trains.now s.stops.now basis a.layer.number l.train a.shift (omega arith) l.work l.reached blank in
+                  rw (w.work-is, w.reached-is, w.found-is ∙ sym (or-false l.found))
+                  (fills_then s.ordered before idle (λ runs may. sym w'.if-usable.false ∙ asked ∙ may l.train (omega arith)) (omega arith))
+            ]
       ],
       λ h. ap (λ n. (train_row n s.trains.now).first) (add-one l.train) ∙ next_first s.trains.now s.stops.now s.ordered l.train (omega arith),
       λ h. last_ends s.trains.now s.stops.now s.ordered l.train (omega arith),
