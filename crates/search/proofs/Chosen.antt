@@ -33,3 +33,8 @@ module _ {A L : Type 0} (m : Meaning A) (connex : Connex m) (transitive : Transi
     chosen_pass same none b =
         rw same
         (best_skip no_dearer chosen_connex chosen_trans P n (n + 1) best (omega arith) (λ j l h k x. let i : j ≡ n = omega arith in none l (subst (λ (x : ℕ). P x l) i x)) b)
+
+-- nothing is chosen besides what there is
+pub cheaper_none : {L : Type 0} (at_most : L → L → Bool) (o : Option L) → o ≡ cheaper at_most o None
+cheaper_none at_most None = refl
+cheaper_none at_most (Some a) = refl

@@ -169,7 +169,3 @@ module _ {A : Type 0} (m : Meaning A) (connex : Connex m) (transitive : Transiti
 pub no_end_here : {A : Type 0} (b : Bool) (k x : ℕ) → end_here {A = A} b k x None ≡ None
 no_end_here true k x = refl
 no_end_here false k x = refl
-
-pub cheaper_none : {A : Type 0} (m : Meaning A) (known : Option (End A)) → known ≡ cheaper (ends_no_dearer m) known None
-cheaper_none m None = refl
-cheaper_none m (Some e) = refl

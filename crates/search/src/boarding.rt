@@ -121,14 +121,25 @@ impl<P: Tariff> Inquiry<'_, P> {
         while let Some(place) = next {
             let place = place as usize;
             let (shift, row) = self.shift_and_row(place);
-            let label = label_at(work, at + place);
-            best = cheaper(self.tariff, best, self.change(row, shift, label, onward));
+            // the label is read only where one can change, as it lies far off
+            if self.may_change(row, shift, onward) {
+                let label = label_at(work, at + place);
+                best = cheaper(self.tariff, best, self.change(row, shift, label, onward));
+            }
             next = arrivals.nexts[place];
         }
         best
     }
 
-    // The label of who alights at the row from the run of that shift, and changes to what he wants to catch, if he can.
+    // Whether who comes to the row with the run of that shift can alight there, and change to what he wants to catch.
+    fn may_change(&self, row: usize, shift: Shift, onward: Onward) -> bool
+        requires inside { row < length self.now.stops.now }
+        ensures { result ≡ (may_alight (stop_at self.now.stops.now row) && can_catch (arrival (stop_at self.now.stops.now row) + midnight shift) onward.minute) }
+    {
+        may_alight(&self.stops[row]) && can_catch(self.reaches(row, shift), onward.minute)
+    }
+
+    // The label of who does so.
     fn change(
         &self,
         row: usize,
@@ -137,13 +148,9 @@ impl<P: Tariff> Inquiry<'_, P> {
         onward: Onward,
     ) -> Option<Label<P::Total>>
         requires inside { row < length self.now.stops.now }
-        ensures { result ≡ only_when (may_alight (stop_at self.now.stops.now row) && can_catch (arrival (stop_at self.now.stops.now row) + midnight shift) onward.minute) (mapped (changed (P.Tariff.meaning self.now.tariff.now) (stop_at self.now.stops.now row) shift onward.minute onward.board (place_of (length self.now.stops.now) shift row)) label) }
+        ensures { result ≡ mapped (changed (P.Tariff.meaning self.now.tariff.now) (stop_at self.now.stops.now row) shift onward.minute onward.board (place_of (length self.now.stops.now) shift row)) label }
     {
-        let since = self.reaches(row, shift);
-        if !may_alight(&self.stops[row]) || !can_catch(since, onward.minute) {
-            return None;
-        }
-        let step = wait(Kind::Change, since, onward.minute);
+        let step = wait(Kind::Change, self.reaches(row, shift), onward.minute);
         let from = self.place(shift, row) as u16;
         label.map(|before| Label {
             total: self.tariff.add(before.total, step),

@@ -1,11 +1,19 @@
-use Rattle.std.proofs.Common.{◌≡◌, ℕ, ◌+◌, ◌*◌, ◌<◌, length, Option, IfSome, ap, ◌∙◌, subst, add_assoc, arith}
+use Rattle.std.proofs.Common.{◌≡◌, ℕ, ◌+◌, ◌*◌, ◌<◌, true, false, ◌&&◌, length, None, Option, IfSome, sym, refl, ap, ◌∙◌, subst, add_assoc, arith}
+use Rattle.book.specs.Rules.{stop_at}
+use Rattle.connection.specs.Choosing.{mapped, only_when}
+use Rattle.connection.specs.Clock.{midnight}
+use Rattle.connection.specs.Rides.{can_catch, may_alight, arrival}
 use Rattle.connection.specs.Settled.{no_dearer}
 use Rattle.connection.specs.Ways.{Best}
+use Rattle.connection.specs.declared.label.Label.{Label}
 use Rattle.search.specs.Chains.{behind, ArrivesAt}
-use Rattle.search.specs.Working.{number, layer_at, part_at, label_at, label_in}
+use Rattle.search.specs.Changing.{changed}
+use Rattle.search.specs.Working.{number, place, layer_at, part_at, label_at, label_in}
 use Rattle.search.proofs.BestChange.{ChangesFrom, arrives_here, changes_start, changes_next, changes_all}
+use Rattle.search.proofs.Chosen.{cheaper_none}
 use Rattle.search.proofs.RowsAreTrains.{place_below}
 use Rattle.search.proofs.inquiry.Inquiry.best_change.Goals as goal
+use Rattle.search.proofs.inquiry.Inquiry.best_change.Goals.{then-may_change, else-may_change}
 
 pub loop-next-init : goal.loop-next-init
 loop-next-init g c =
@@ -39,8 +47,21 @@ loop-next-preserved g c =
     let link = c.requires.linked.next o.station x far inv.1 in
     let here = arrives_here stops label o.station x s row inv.1 inside is in
     let at : layer_at size a.layer.number + x ≡ part_at size a.layer.number s + row = omega (arith, is, add_assoc (layer_at size a.layer.number) (number s * size) row) in
-    let held = c.label_at-label.ensures ∙ ap (λ (y : ℕ). label_at a.work.now (y + x)) c.layer_at-at.ensures ∙ ap (label_at a.work.now) at in
-    (changes_next m (laws.connex t) (laws.transitive t) stops label o.station o.minute o.board s row inside here x is _ link l.best _ _ _ held c.change.ensures c.cheaper-best.ensures inv.0, link.arrives)
+    let stop = stop_at stops row in
+    let test = may_alight stop && can_catch (arrival stop + midnight s) o.minute in
+    let made = λ (l : Option (Label _)). mapped (changed m stop s o.minute o.board (place size s row)) l in
+    let go = changes_next m (laws.connex t) (laws.transitive t) stops label o.station o.minute o.board s row inside here x is _ link l.best in
+    elim c.if-may_change.branch [
+      | then-may_change w ↦
+          let held = w.label_at-label.ensures ∙ ap (λ (y : ℕ). label_at a.work.now (y + x)) c.layer_at-at.ensures ∙ ap (label_at a.work.now) at in
+          let yes : test ≡ true = sym c.may_change.ensures ∙ w.if-may_change.true in
+          let is_made = w.change.ensures ∙ ap (λ b. only_when b (made w.label_at-label.result)) (sym yes) in
+          (go _ _ c.if-may_change.best held is_made (w.best-is ∙ w.cheaper-best.ensures) inv.0, link.arrives)
+      | else-may_change w ↦
+          let no : test ≡ false = sym c.may_change.ensures ∙ w.if-may_change.false in
+          let is_none = ap (λ b. only_when b (made (label s row))) (sym no) in
+          (go (label s row) None c.if-may_change.best refl is_none (w.best-is ∙ cheaper_none (no_dearer m) l.best) inv.0, link.arrives)
+    ]
 
 pub returns : goal.returns
 returns g c =
