@@ -1,20 +1,24 @@
 -- Nobody is on board a run that nobody boards, so its blank records settle its stops.
-use Rattle.std.proofs.Common.{◌≡◌, ℕ, zero, suc, ◌+◌, ◌*◌, ◌<◌, ◌≤◌, ◌-◌, Bool, true, false, ◌&&◌, List, length, None, Option, sym, refl, ap, subst, add_assoc, arith}
+use Rattle.std.proofs.Common.{◌≡◌, ℕ, zero, suc, ◌+◌, ◌*◌, ◌<◌, ◌≤◌, ◌-◌, Bool, true, false, ◌&&◌, eqb, leb, List, length, Some, None, Option, sym, refl, ap, subst, add_assoc, add-one, arith}
 use Rattle.tariff.specs.Meaning.{Meaning}
+use Rattle.tariff.specs.declared.step.Kind.TheVariants.{Start}
 use Rattle.book.specs.Answers.{train_row}
 use Rattle.book.specs.Rules.{stop_at}
 use Rattle.book.specs.Trains.{Train, trains_in}
 use Rattle.book.specs.declared.rows.StopRow.{StopRow}
 use Rattle.book.specs.declared.rows.TrainRow.{TrainRow}
 use Rattle.calendar.specs.Pairs.{Pairs}
-use Rattle.connection.specs.Clock.{midnight}
+use Rattle.connection.specs.Choosing.{only_when}
+use Rattle.connection.specs.Clock.{midnight, ready}
+use Rattle.connection.specs.Labels.{with}
+use Rattle.connection.specs.Prices.{stretch}
 use Rattle.connection.specs.Rides.{may_board, departure, stops_at}
 use Rattle.connection.specs.Settled.{SettlesBoarding}
 use Rattle.connection.specs.declared.query.Query.{Query}
 use Rattle.connection.specs.declared.ride.Shift.{Shift}
 use Rattle.connection.proofs.Onward.{settles_first_stop, settles_next_stop}
 use Rattle.connection.proofs.Times.{Punctual, on_time}
-use Rattle.search.specs.Chains.{LinkedBefore, Unreached}
+use Rattle.search.specs.Chains.{Chained, LinkedBefore, is_at, Unreached}
 use Rattle.search.specs.Ends.{known_total}
 use Rattle.search.specs.Layers.{row_of, Trail, Holds, Filled, BlankFrom, Fills, RunAsked, run_begins, run_ends}
 use Rattle.search.specs.Working.{may_use, number, place, layer_at, part_at, label_in}
@@ -24,11 +28,11 @@ use Rattle.search.specs.declared.record.WorkRecord.{WorkRecord}
 use Rattle.search.proofs.Basis.{Basis}
 use Rattle.search.proofs.BestChange.{no_changes}
 use Rattle.search.proofs.BlankRecords.{blank_less, blank_label}
-use Rattle.search.proofs.Chaining.{chained_over}
+use Rattle.search.proofs.Chaining.{not_some, chained_over}
 use Rattle.search.proofs.FillingRuns.{of_the_run}
 use Rattle.search.proofs.KnownEnds.{known_over}
 use Rattle.search.proofs.RowsAreTrains.{fits, count_is}
-use Rattle.search.proofs.WaysToBoard.{boards_nothing, boards_later}
+use Rattle.search.proofs.WaysToBoard.{boards_nothing, boards_first, boards_later}
 
 module _ {A : Type 0} (m : Meaning A) (q : Query) (rows : List TrainRow) (stops : List StopRow) (basis : Basis m rows stops) (layer n : ℕ) (s : Shift) (ln : n < length rows) (table : List (WorkRecord A)) where
   abbrev size : ℕ
@@ -75,21 +79,25 @@ module _ {A : Type 0} (m : Meaning A) (q : Query) (rows : List TrainRow) (stops 
         fills (RunAsked q (train_row n rows) s false)
         (λ runs may filled i li. boards_nothing m rows stops basis runs q (known_total before.end) n s i ln li (Trail rows size table layer) layer (ap (λ b. b && may_board (stop_at stops (row_of rows n i))) (sym may)))
 
-    -- it may, but nobody has come to a station of it
-    pub fills_unreached : (arrivals : Arrivals) → LinkedBefore stops table layer arrivals → Unreached rows stops layer arrivals n → Fills m q rows stops layer (RunAsked q (train_row n rows) s true) table table (run_begins rows size n s) (run_ends rows size n s) false before before
-    fills_unreached arrivals linked none = fills (RunAsked q (train_row n rows) s true) nobody
+    -- it may, but one is at no station of it
+    pub fills_unreached : (arrivals : Arrivals) → LinkedBefore stops table layer arrivals → Unreached rows stops layer q.origin arrivals n → Fills m q rows stops layer (RunAsked q (train_row n rows) s true) table table (run_begins rows size n s) (run_ends rows size n s) false before before
+    fills_unreached arrivals linked none =
+        fills (RunAsked q (train_row n rows) s true)
+        (λ runs may filled i li. nobody runs i li layer linked filled (none i li) (may_use runs q (train_row n rows) s && may_board (stop_at stops (row_of rows n i))) refl)
       where
-        before_it : layer - 1 + 1 ≡ layer
-        before_it = omega (arith, none.later)
+        first : (runs : Pairs) (i : ℕ) → i < (train_row n rows).count → (may_use runs q (train_row n rows) s && may_board (stop_at stops (row_of rows n i))) ≡ true → eqb (stop_at stops (row_of rows n i)).station q.origin ≡ false → SettlesBoarding m trains runs q (Trail rows size table 0) (known_total before.end) 0 n s i None
+        first runs i li e far =
+            boards_first m rows stops basis runs q (known_total before.end) n s i ln li table None e
+            (ap (λ b. only_when (b && leb (ready q) (departure (stop_at stops (row_of rows n i)) + midnight s)) (Some (record { total = with m m.empty (stretch Start (departure (stop_at stops (row_of rows n i)) + midnight s - ready q) 0); board = i; from = 0 }))) (sym far))
 
-        go : (b : Bool) (runs : Pairs) (i : ℕ) → i < (train_row n rows).count → Filled m runs q rows stops (known_total before.end) table layer → (may_use runs q (train_row n rows) s && may_board (stop_at stops (row_of rows n i))) ≡ b → SettlesBoarding m trains runs q (Trail rows size table layer) (known_total before.end) layer n s i None
-        go false runs i li filled e = boards_nothing m rows stops basis runs q (known_total before.end) n s i ln li (Trail rows size table layer) layer e
-        go true runs i li filled e =
+        nobody : (runs : Pairs) (i : ℕ) → i < (train_row n rows).count → (k : ℕ) → LinkedBefore stops table k arrivals → Filled m runs q rows stops (known_total before.end) table k → is_at arrivals k q.origin (stop_at stops (row_of rows n i)).station ≡ false → (b : Bool) → (may_use runs q (train_row n rows) s && may_board (stop_at stops (row_of rows n i))) ≡ b → SettlesBoarding m trains runs q (Trail rows size table k) (known_total before.end) k n s i None
+        nobody runs i li k linked filled far false e = boards_nothing m rows stops basis runs q (known_total before.end) n s i ln li (Trail rows size table k) k e
+        nobody runs i li zero linked filled far true e = first runs i li e far
+        nobody runs i li (suc k) linked filled far true e =
             let row = row_of rows n i in
             let inside : row < size = omega (arith, fits rows stops basis.timetable.ordered n ln) in
             let until = departure (stop_at stops row) + midnight s in
-            boards_later m rows stops basis runs q (known_total before.end) layer (layer - 1) table n s i until None before_it filled ln li e refl
-            (no_changes m stops (label_in size table (layer - 1)) arrivals (stop_at stops row).station until i (linked none.later) (basis.timetable.timely.stations row inside) (none.nobody i li))
-
-        nobody : (runs : Pairs) → RunAsked q (train_row n rows) s true runs → Filled m runs q rows stops (known_total before.end) table layer → (i : ℕ) → i < (train_row n rows).count → SettlesBoarding m trains runs q (Trail rows size table layer) (known_total before.end) layer n s i None
-        nobody runs may filled i li = go (may_use runs q (train_row n rows) s && may_board (stop_at stops (row_of rows n i))) runs i li filled refl
+            let same : suc k - 1 ≡ k = omega arith in
+            let chained = subst (λ (j : ℕ). Chained stops (label_in size table j) (3 * size) arrivals) same (linked (omega arith)) in
+            boards_later m rows stops basis runs q (known_total before.end) (suc k) k table n s i until None (add-one k) filled ln li e refl
+            (no_changes m stops (label_in size table k) arrivals (stop_at stops row).station until i chained (basis.timetable.timely.stations row inside) (not_some _ far))

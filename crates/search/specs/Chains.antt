@@ -1,5 +1,5 @@
 -- The places of a layer with a label, chained by station, the last of a station first.
-use Rattle.std.specs.Prelude.{◌≡◌, ℕ, zero, suc, ◌+◌, ◌*◌, ◌-◌, ◌<◌, ◌≤◌, true, List, length, replicate, is_some, Some, None, Option, IfSome, slice_index_or, slice_set}
+use Rattle.std.specs.Prelude.{◌≡◌, ℕ, zero, suc, ◌+◌, ◌*◌, ◌-◌, ◌<◌, ◌≤◌, Bool, true, false, List, length, replicate, is_some, Some, None, Option, IfSome, slice_index_or, slice_set, ◌==◌}
 use Rattle.book.specs.Answers.{train_row}
 use Rattle.book.specs.Limits.{last_station}
 use Rattle.book.specs.Rules.{stop_at}
@@ -58,10 +58,15 @@ module _ {A : Type 0} (stops : List StopRow) (label : Shift → ℕ → Option (
     pub first : (station : ℕ) → station ≤ last_station → Link station a (slice_index_or arrivals.heads station None)
     pub next : (station x : ℕ) → x < a → ArrivesAt station x → Link station x (slice_index_or arrivals.nexts x None)
 
--- the layer k is not the first, and nobody has come to a station of the train in the layer before
-pub record Unreached (rows : List TrainRow) (stops : List StopRow) (k : ℕ) (arrivals : Arrivals) (n : ℕ) : Type 0 where
-  pub later : 0 < k
-  pub nobody : (i : ℕ) → i < (train_row n rows).count → slice_index_or arrivals.heads (stop_at stops ((train_row n rows).first + i)).station None ≡ None
+-- one is at the station after so many changes: at the start at the origin, later where somebody has come with a change less
+abbrev pub is_at : Arrivals → (k origin station : ℕ) → Bool
+is_at arrivals zero origin station = station == origin
+is_at arrivals (suc k) origin station = is_some (slice_index_or arrivals.heads station None)
+
+-- one is at no station of the train
+abbrev pub Unreached : List TrainRow → List StopRow → (k origin : ℕ) → Arrivals → ℕ → Type 0
+Unreached rows stops k origin arrivals n =
+    (i : ℕ) → i < (train_row n rows).count → is_at arrivals k origin (stop_at stops ((train_row n rows).first + i)).station ≡ false
 
 -- the chains of the layer before the layer k, if there is one
 abbrev pub LinkedBefore : {A : Type 0} → List StopRow → List (WorkRecord A) → ℕ → Arrivals → Type 0

@@ -14,7 +14,7 @@ ghost use Rattle.connection.specs.Rides.{arrival, departure, may_alight, can_cat
 ghost use Rattle.connection.specs.Settled.{no_dearer, SettlesBoarding};
 ghost use Rattle.connection.specs.Ways.{Best};
 ghost use Rattle.search.specs.Changing.{changed, Changes};
-ghost use Rattle.search.specs.Chains.{Chained, LinkedBefore, Unreached};
+ghost use Rattle.search.specs.Chains.{Chained, LinkedBefore, is_at, Unreached};
 ghost use Rattle.search.specs.Layers.{Trail, Filled, RunAsked};
 ghost use Rattle.search.specs.Working.{place as place_of, label_in, HasLayers};
 
@@ -33,21 +33,28 @@ use tariff::Tariff;
 use tariff::step::Kind;
 
 impl<P: Tariff> Inquiry<'_, P> {
-    // Whether somebody has come to a station of the train with a change less; else nobody boards it. In the first layer one
-    // may start anywhere.
+    // Whether one is at a station of the train after as many changes as the layer has; else nobody boards it.
     pub fn may_be_boarded(&self, layer: Layer, arrivals: &Arrivals, train: usize) -> bool
         requires in_force { train < length self.now.trains.now }
-        ensures unless { result ≡ false → Unreached self.now.trains.now self.now.stops.now layer.number arrivals.now train }
+        ensures unless { result ≡ false → Unreached self.now.trains.now self.now.stops.now layer.number self.now.query.now.origin arrivals.now train }
     {
-        if layer.number == 0 {
-            return true;
-        }
         for stop in self.trains[train].stops(self.stops) {
-            if arrivals.heads[stop.station as usize].is_some() {
+            if self.is_at(layer, arrivals, stop.station) {
                 return true;
             }
         }
         false
+    }
+
+    // At the start one is at the origin, later where somebody has come with a change less.
+    fn is_at(&self, layer: Layer, arrivals: &Arrivals, station: u16) -> bool
+        requires known { station ≤ last_station }
+        ensures { result ≡ is_at arrivals.now layer.number self.now.query.now.origin station }
+    {
+        if layer.number == 0 {
+            return station == self.query.origin;
+        }
+        arrivals.heads[station as usize].is_some()
     }
 
     // The label of who boards the run at its stop `i`, after as many changes as the layer has, if the query may use the run.

@@ -8,4 +8,4 @@ returns g c =
     let s = c.args.self.now in
     let n = c.args.train in
     let long : length c.stops-stop-items.result.now ≡ (train_row n s.trains.now).count = ap length c.stops-stop-items.ensures ∙ own_count s.trains.now s.stops.now s.ordered n c.requires.in_force in
-    record { unless = λ e. record { later = omega arith; nobody = λ i li. c.loop-stop.invariant i (omega arith) } }
+    record { unless = λ e i li. c.loop-stop.invariant i (omega arith) }
