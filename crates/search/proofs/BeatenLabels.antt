@@ -1,10 +1,11 @@
--- A label is beaten where a layer before it holds one that costs no more.
+-- A label is beaten where a layer before it holds one that costs no more, and hopeless where a known connection does.
 use Rattle.std.proofs.Common.{◌≡◌, ℕ, zero, suc, ◌+◌, ◌<◌, Bool, true, false, ◌||◌, T, ◌⊎◌, List, Some, None, Option, sym, refl, ap, ◌∙◌, subst, inl, inr, add-one, add-zero, zero-add, arith}
 use Rattle.std.proofs.Math.Bool.{or_assoc, or-false}
 use Rattle.std.specs.List.{list_any, range_with_len}
 use Rattle.tariff.specs.Meaning.{Meaning}
+use Rattle.connection.specs.Settled.{Hopeless}
 use Rattle.connection.specs.declared.label.Label.{Label}
-use Rattle.search.specs.Working.{layer_at, label_at, costs_no_more, beaten}
+use Rattle.search.specs.Working.{layer_at, label_at, costs_no_more, hopeless, beaten}
 use Rattle.search.specs.declared.record.WorkRecord.{WorkRecord}
 
 -- a test that holds of one of the first numbers, told one number after another
@@ -48,3 +49,8 @@ module _ {A : Type 0} (m : Meaning A) (size : ℕ) (table : List (WorkRecord A))
         | inl b ↦ let r = beater k b in record { in_layer = r.in_layer; earlier = omega (arith, r.earlier); label = r.label; held = r.held; no_dearer = r.no_dearer }
         | inr c ↦ beater_at k (label_at table (layer_at size k + at)) refl c
       ]
+
+-- a label that is called hopeless is
+pub is_hopeless : {A : Type 0} (m : Meaning A) (known : Option A) (t : A) → hopeless m known t ≡ true → Hopeless m known t
+is_hopeless m None t e = let z : ◌≡◌ {A = ℕ} 0 1 = cc in absurd (omega arith)
+is_hopeless m (Some best) t e = subst T (sym e) tt

@@ -1,5 +1,5 @@
 -- Chains that grow place by place.
-use Rattle.std.proofs.Common.{◌≡◌, ℕ, ◌+◌, ◌<◌, ◌≤◌, true, false, ◌≢◌, ◌⊎◌, List, length, get_or, replicate, is_some, Some, None, Option, sym, refl, ap, ◌∙◌, subst, inl, inr, arith, get_or-set_other, get_or-set_same}
+use Rattle.std.proofs.Common.{◌≡◌, ℕ, ◌+◌, ◌<◌, ◌≤◌, true, false, ◌≢◌, ◌⊎◌, List, length, get_or, set, replicate, is_some, Some, None, Option, sym, refl, ap, ◌∙◌, subst, inl, inr, arith, get_or-set_other, get_or-set_same}
 use Rattle.std.proofs.lemmas.List.{length-set, length-replicate, get_or-replicate}
 use Rattle.std.proofs.lemmas.Bool.{cases_lt}
 use Rattle.book.specs.Rules.{stop_at}
@@ -7,9 +7,12 @@ use Rattle.book.specs.declared.rows.StopRow.{StopRow}
 use Rattle.connection.specs.declared.label.Label.{Label}
 use Rattle.connection.specs.declared.ride.Shift.{Shift}
 use Rattle.search.specs.Chains.{with_arrival, arrived, ArrivesAt, Link, Chained}
-use Rattle.search.specs.Working.{place}
+use Rattle.search.specs.Records.{record_of}
+use Rattle.search.specs.Working.{place, layer_at, label_in}
 use Rattle.search.specs.declared.chains.Arrivals.{Arrivals}
+use Rattle.search.specs.declared.record.WorkRecord.{WorkRecord}
 use Rattle.search.proofs.RowsAreTrains.{place_below, same_place}
+use Rattle.search.proofs.WrittenRecords.{stands_at, kept_ahead, held_here}
 
 pub not_some : {A : Type 0} (o : Option A) → is_some o ≡ false → o ≡ None
 not_some None e = refl
@@ -154,3 +157,12 @@ module _ {A : Type 0} (stops : List StopRow) where
       pub chained_more : (o : Option (Label A)) → label s row ≡ o → Chained stops label (at + 1) (arrived c station at o)
       chained_more None e = add_none e
       chained_more (Some l) e = add_some (ap is_some e)
+
+-- ---- the record of a row of a layer is written, and its label is taken into the chains
+pub chained_written : {A : Type 0} (stops : List StopRow) (few : length stops ≤ 4096) (layer : ℕ) (s : Shift) (row at : ℕ) (inside : row < length stops) (known : (stop_at stops row).station ≤ 1023) (at_is : at ≡ layer_at (length stops) layer + place (length stops) s row) (old new : List (WorkRecord A)) (o : Option (Label A)) → at < length old → new ≡ set old at (record_of o) → (c : Arrivals) → Chained stops (label_in (length stops) old layer) (place (length stops) s row) c → Chained stops (label_in (length stops) new layer) (place (length stops) s row + 1) (arrived c (stop_at stops row).station (place (length stops) s row) o)
+chained_written {A} stops few layer s row at inside known at_is old new o room is_new c h =
+    chained_more stops (label_in (length stops) new layer) s row inside few known c (chained_same stops (label_in (length stops) old layer) (label_in (length stops) new layer) (place (length stops) s row) same c h) o (held_here (length stops) layer s row at at_is old new o is_new room)
+  where
+    same : (s' : Shift) (row' : ℕ) → row' < length stops → place (length stops) s' row' < place (length stops) s row → label_in (length stops) new layer s' row' ≡ label_in (length stops) old layer s' row'
+    same s' row' i g =
+        kept_ahead (length stops) layer s row at at_is old new o is_new layer s' row' (omega (arith, g, at_is, stands_at (length stops) layer s row at at_is old new o is_new layer (place (length stops) s' row') s' row' refl))

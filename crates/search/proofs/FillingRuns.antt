@@ -1,5 +1,5 @@
 -- The labels of a run, filled in stop by stop, settle its stops.
-use Rattle.std.proofs.Common.{◌≡◌, ℕ, suc, ◌+◌, ◌-◌, ◌*◌, ◌<◌, ◌≤◌, Bool, true, false, cond, ◌||◌, T, ◌⊎◌, List, length, set, is_some, Some, None, Option, sym, refl, ap, ◌∙◌, subst, ap₂, inl, inr, add_assoc, add-one, arith}
+use Rattle.std.proofs.Common.{◌≡◌, ℕ, suc, ◌+◌, ◌-◌, ◌*◌, ◌<◌, ◌≤◌, Bool, true, false, cond, ◌||◌, ◌⊎◌, List, length, set, is_some, Some, None, Option, sym, refl, ap, ◌∙◌, subst, ap₂, inl, inr, add_assoc, add-one, arith}
 use Rattle.std.proofs.lemmas.Bool.{cases_lt}
 use Rattle.tariff.specs.Meaning.{Meaning}
 use Rattle.book.specs.Answers.{train_row}
@@ -28,9 +28,9 @@ use Rattle.search.specs.declared.ends.End.{End}
 use Rattle.search.specs.declared.reached.Reached.{Reached}
 use Rattle.search.specs.declared.record.WorkRecord.{WorkRecord}
 use Rattle.search.proofs.Basis.{Basis}
-use Rattle.search.proofs.BeatenLabels.{Beater, beater}
+use Rattle.search.proofs.BeatenLabels.{Beater, beater, is_hopeless}
 use Rattle.search.proofs.BlankRecords.{blank_less, blank_behind}
-use Rattle.search.proofs.Chaining.{not_some, chained_same, chained_more}
+use Rattle.search.proofs.Chaining.{not_some, chained_written}
 use Rattle.search.proofs.KnownEnds.{cheaper_no_dearer, known_more}
 use Rattle.search.proofs.RowsAreTrains.{fits, count_is, stop_is, same_row, same_place}
 use Rattle.search.proofs.Unchanged.{label_same, unchanged_sym, boarding_same, filled_same, holds_still, filled_still}
@@ -39,12 +39,6 @@ use Rattle.search.proofs.WrittenRecords.{written_same, written_here, unchanged_s
 pub or_none : (a b : Bool) → (a || b) ≡ false → (a ≡ false) × (b ≡ false)
 or_none true b e = cc
 or_none false b e = (refl, e)
-
--- what the tests say of a label
-module _ {A : Type 0} (m : Meaning A) where
-  is_hopeless : (known : Option A) (t : A) → hopeless m known t ≡ true → Hopeless m known t
-  is_hopeless None t e = let z : ◌≡◌ {A = ℕ} 0 1 = cc in absurd (omega arith)
-  is_hopeless (Some best) t e = subst T (sym e) tt
 
 module _ {A : Type 0} (m : Meaning A) (q : Query) (rows : List TrainRow) (stops : List StopRow) (layer n : ℕ) (s : Shift) (before : Reached A) where
   abbrev size : ℕ
@@ -163,15 +157,8 @@ module _ {A : Type 0} (m : Meaning A) (q : Query) (rows : List TrainRow) (stops 
           let row = row_of rows n i in
           let inside : row < size = omega (arith, fits rows stops basis.timetable.ordered n ln) in
           let here : place size s first + i ≡ place size s row = add_assoc (number s * size) first i in
-          let same = λ (s' : Shift) (row' : ℕ) (l : row' < size) (g : place size s' row' < place size s first + i).
-          ap (λ t. label_at t (part_at size layer s' + row')) is_next
-          ∙ ap label_of (written_same new (start + i) KeptLabel (part_at size layer s' + row') (inl (omega (arith, g, start_is, add_assoc (layer_at size layer) (number s' * size) row'))))
-          in
-          let so_far = chained_same stops (label_in size new layer) (label_in size next layer) (place size s first + i) same now.arrivals (state.chained h) in
-          let label_is : label_in size next layer s row ≡ KeptLabel =
-          ap (label_at next) (add_assoc (layer_at size layer) (number s * size) row ∙ sym at_is) ∙ ap (λ t. label_at t (start + i)) is_next ∙ written_here new (start + i) KeptLabel room
-          in
-          let more = chained_more stops (label_in size next layer) s row inside basis.timetable.ordered.few_stops (basis.timetable.timely.stations row inside) now.arrivals (subst (λ (x : ℕ). Chained stops (label_in size next layer) x now.arrivals) here so_far) KeptLabel label_is in
+          let so_far = subst (λ (x : ℕ). Chained stops (label_in size new layer) x now.arrivals) here (state.chained h) in
+          let more = chained_written stops basis.timetable.ordered.few_stops layer s row (start + i) inside (basis.timetable.timely.stations row inside) at_is new next KeptLabel room is_next now.arrivals so_far in
           let there : place size s row + 1 ≡ place size s first + (i + 1) = omega (arith, here) in
           subst (λ (x : ℕ). Chained stops (label_in size next layer) x now'.arrivals) there (subst (Chained stops (label_in size next layer) (place size s row + 1)) (sym is_arrived) more)
 

@@ -15,7 +15,7 @@ use Rattle.connection.proofs.Best.{best_same, best_cheaper}
 use Rattle.connection.proofs.Tests.{is_true}
 use Rattle.search.specs.Ends.{ends_no_dearer, known_total, end_of, is_end, end_here, Ends, Known, NoDearer}
 use Rattle.search.specs.Layers.{BlankFrom}
-use Rattle.search.specs.Records.{record_of, label_of}
+use Rattle.search.specs.Records.{record_of}
 use Rattle.search.specs.Working.{number, place, layer_at, part_at, label_at, label_in}
 use Rattle.search.specs.declared.ends.End.{End}
 use Rattle.search.specs.declared.record.WorkRecord.{WorkRecord}
@@ -23,7 +23,7 @@ use Rattle.search.proofs.BlankRecords.{blank_label}
 use Rattle.search.proofs.Chosen.{chosen_connex, chosen_trans, itself}
 use Rattle.search.proofs.Layering.{next_layer, layers_below}
 use Rattle.search.proofs.RowsAreTrains.{place_below, same_place}
-use Rattle.search.proofs.WrittenRecords.{written_same, written_here}
+use Rattle.search.proofs.WrittenRecords.{stands_at, kept_ahead, held_here}
 
 -- ---- where a record stands tells its layer and its place there
 layer_first : (size k x k' x' : ℕ) → x < 3 * size → k < k' → layer_at size k + x < layer_at size k' + x'
@@ -88,15 +88,14 @@ module _ {A : Type 0} (m : Meaning A) (connex : Connex m) (transitive : Transiti
     abbrev here : Option (End A)
     here = end_here (is_end (stop_at stops row) destination) layer (place size s row) o
 
-    stands_at : (k x : ℕ) (s' : Shift) (row' : ℕ) → x ≡ place size s' row' → part_at size k s' + row' ≡ layer_at size k + x
-    stands_at k x s' row' e = add_assoc (layer_at size k) (number s' * size) row' ∙ ap (λ y. layer_at size k + y) (sym e)
+    stands : (k x : ℕ) (s' : Shift) (row' : ℕ) → x ≡ place size s' row' → part_at size k s' + row' ≡ layer_at size k + x
+    stands = stands_at size layer s row at at_is old new o is_new
 
     kept : (k : ℕ) (s' : Shift) (row' : ℕ) → part_at size k s' + row' < at → label_in size new k s' row' ≡ label_in size old k s' row'
-    kept k s' row' h =
-        ap (λ t. label_at t (part_at size k s' + row')) is_new ∙ ap label_of (written_same old at o (part_at size k s' + row') (inl h))
+    kept = kept_ahead size layer s row at at_is old new o is_new
 
-    held_here : label_at new at ≡ o
-    held_here = ap (λ t. label_at t at) is_new ∙ written_here old at o room
+    held : label_in size new layer s row ≡ o
+    held = held_here size layer s row at at_is old new o is_new room
 
     made : (e : End A) (b : Bool) → is_end (stop_at stops row) destination ≡ b → (l : Option (Label A)) → o ≡ l → end_here b layer (place size s row) l ≡ Some e → After e
     made e true eb None eo y = absurd (none-some e y)
@@ -109,7 +108,7 @@ module _ {A : Type 0} (m : Meaning A) (connex : Connex m) (transitive : Transiti
           ahead = omega (arith, at_is);
           inside = inside;
           off = subst T (sym eb) tt;
-          held = ap (label_at new) (stands_at layer (place size s row) s row refl ∙ sym at_is) ∙ held_here ∙ eo;
+          held = held ∙ eo;
           total_is = refl;
           place_is = refl;
         })
@@ -124,7 +123,7 @@ module _ {A : Type 0} (m : Meaning A) (connex : Connex m) (transitive : Transiti
           ahead = omega (arith, x.ahead);
           inside = x.inside;
           off = x.off;
-          held = kept e.layer x.shift x.row (omega (arith, x.ahead, stands_at e.layer e.place x.shift x.row x.place_is)) ∙ x.held;
+          held = kept e.layer x.shift x.row (omega (arith, x.ahead, stands e.layer e.place x.shift x.row x.place_is)) ∙ x.held;
           total_is = x.total_is;
           place_is = x.place_is;
         }
@@ -136,8 +135,13 @@ module _ {A : Type 0} (m : Meaning A) (connex : Connex m) (transitive : Transiti
         let where_is = place_ahead size e.layer e.place layer (place size s row) far (place_below s size row inside) (f ∙ at_is) in
         let which = same_place x.shift s size x.row row x.inside inside (sym x.place_is ∙ where_is.1) in
         let off : T (is_end (stop_at stops row) destination) = subst (λ (r : ℕ). T (is_end (stop_at stops r) destination)) which.1 x.off in
-        let held : o ≡ Some x.label = sym held_here ∙ ap (label_at new) (sym (stands_at e.layer e.place x.shift x.row x.place_is ∙ f)) ∙ x.held in
-        ap₂ (λ b l. end_here b layer (place size s row) l) (is_true _ off) held
+        let here_is : o ≡ Some x.label =
+        sym held
+        ∙ ap (label_at new) (stands layer (place size s row) s row refl ∙ sym at_is)
+        ∙ ap (label_at new) (sym (stands e.layer e.place x.shift x.row x.place_is ∙ f))
+        ∙ x.held
+        in
+        ap₂ (λ b l. end_here b layer (place size s row) l) (is_true _ off) here_is
         ∙ ap Some (same_end (end_of layer (place size s row) x.label) e (sym x.total_is) (sym where_is.0) (sym where_is.1))
 
     from_after : (e : End A) → After e → Either Before (λ e. here ≡ Some e) e
@@ -152,7 +156,7 @@ module _ {A : Type 0} (m : Meaning A) (connex : Connex m) (transitive : Transiti
                 ahead = h;
                 inside = x.inside;
                 off = x.off;
-                held = sym (kept e.layer x.shift x.row (omega (arith, h, stands_at e.layer e.place x.shift x.row x.place_is))) ∙ x.held;
+                held = sym (kept e.layer x.shift x.row (omega (arith, h, stands e.layer e.place x.shift x.row x.place_is))) ∙ x.held;
                 total_is = x.total_is;
                 place_is = x.place_is;
               })

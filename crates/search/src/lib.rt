@@ -5,12 +5,13 @@
 //     // Err(Refusal::NoConnection): there is no connection
 //
 // It works in what it is lent and allocates nothing, hence a list of rides with their number, and a table of plain records.
+// `search_in` does the same in a table that is blank between searches, and so need not be looked over at each (`work_table`).
 // The tables of trains and of stops are two, as the book's own calls are lent them.
 //
 // An `inquiry` is a query that can be asked, over rows that hold a book, under a tariff. It is answered by layers of labels,
 // one layer for each number of changes; a label is the cheapest total with which one can be on board a run at a stop.
-// `layers` fills them run by run (`riding`, `boarding`) and keeps the cheapest label at the destination (`ends`); a label
-// that costs as much as that one is not followed. `trail` reads the rides back.
+// `layers` fills them run by run (`riding`, `boarding`), chains them by station (`chains`) and keeps the cheapest label at
+// the destination (`ends`); a label that costs as much as that one is not followed. `trail` reads the rides back.
 #![tactic(auto)]
 
 ghost use Rattle.std.specs.Prelude.{◌≡◌, true, List, length};
