@@ -18,7 +18,7 @@ use Rattle.connection.specs.declared.query.Query.{Query}
 use Rattle.connection.specs.declared.ride.Shift.{Shift}
 use Rattle.connection.proofs.Onward.{settles_first_stop, settles_next_stop}
 use Rattle.connection.proofs.Times.{Punctual, on_time}
-use Rattle.search.specs.Chains.{Chained, LinkedBefore, is_at, Unreached}
+use Rattle.search.specs.Chains.{Chained, LinkedBefore, is_at, OutOfReach}
 use Rattle.search.specs.Ends.{known_total}
 use Rattle.search.specs.Layers.{row_of, Trail, Holds, Filled, BlankFrom, Fills, RunAsked, run_begins, run_ends}
 use Rattle.search.specs.Working.{may_use, number, place, layer_at, part_at, label_in}
@@ -80,8 +80,8 @@ module _ {A : Type 0} (m : Meaning A) (q : Query) (rows : List TrainRow) (stops 
         (λ runs may filled i li. boards_nothing m rows stops basis runs q (known_total before.end) n s i ln li (Trail rows size table layer) layer (ap (λ b. b && may_board (stop_at stops (row_of rows n i))) (sym may)))
 
     -- it may, but one is at no station of it
-    pub fills_unreached : (arrivals : Arrivals) → LinkedBefore stops table layer arrivals → Unreached rows stops layer q.origin arrivals n → Fills m q rows stops layer (RunAsked q (train_row n rows) s true) table table (run_begins rows size n s) (run_ends rows size n s) false before before
-    fills_unreached arrivals linked none =
+    pub fills_out_of_reach : (arrivals : Arrivals) → LinkedBefore stops table layer arrivals → OutOfReach rows stops layer q.origin arrivals n → Fills m q rows stops layer (RunAsked q (train_row n rows) s true) table table (run_begins rows size n s) (run_ends rows size n s) false before before
+    fills_out_of_reach arrivals linked none =
         fills (RunAsked q (train_row n rows) s true)
         (λ runs may filled i li. nobody runs i li layer linked filled (none i li) (may_use runs q (train_row n rows) s && may_board (stop_at stops (row_of rows n i))) refl)
       where

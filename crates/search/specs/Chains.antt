@@ -64,9 +64,14 @@ is_at arrivals zero origin station = station == origin
 is_at arrivals (suc k) origin station = is_some (slice_index_or arrivals.heads station None)
 
 -- one is at no station of the train
-abbrev pub Unreached : List TrainRow → List StopRow → (k origin : ℕ) → Arrivals → ℕ → Type 0
-Unreached rows stops k origin arrivals n =
+abbrev pub OutOfReach : List TrainRow → List StopRow → (k origin : ℕ) → Arrivals → ℕ → Type 0
+OutOfReach rows stops k origin arrivals n =
     (i : ℕ) → i < (train_row n rows).count → is_at arrivals k origin (stop_at stops ((train_row n rows).first + i)).station ≡ false
+
+-- one is at a station of it
+abbrev pub WithinReach : List TrainRow → List StopRow → (k origin : ℕ) → Arrivals → ℕ → Type 0
+WithinReach rows stops k origin arrivals n =
+    (i : ℕ) × (i < (train_row n rows).count) × (is_at arrivals k origin (stop_at stops ((train_row n rows).first + i)).station ≡ true)
 
 -- the chains of the layer before the layer k, if there is one
 abbrev pub LinkedBefore : {A : Type 0} → List StopRow → List (WorkRecord A) → ℕ → Arrivals → Type 0

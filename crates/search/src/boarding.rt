@@ -14,7 +14,7 @@ ghost use Rattle.connection.specs.Rides.{arrival, departure, may_alight, can_cat
 ghost use Rattle.connection.specs.Settled.{no_dearer, SettlesBoarding};
 ghost use Rattle.connection.specs.Ways.{Best};
 ghost use Rattle.search.specs.Changing.{changed, Changes};
-ghost use Rattle.search.specs.Chains.{Chained, LinkedBefore, is_at, Unreached};
+ghost use Rattle.search.specs.Chains.{Chained, LinkedBefore, is_at, OutOfReach, WithinReach};
 ghost use Rattle.search.specs.Layers.{Trail, Filled, RunAsked};
 ghost use Rattle.search.specs.Working.{place as place_of, label_in, HasLayers};
 
@@ -36,7 +36,8 @@ impl<P: Tariff> Inquiry<'_, P> {
     // Whether one is at a station of the train after as many changes as the layer has; else nobody boards it.
     pub fn may_be_boarded(&self, layer: Layer, arrivals: &Arrivals, train: usize) -> bool
         requires in_force { train < length self.now.trains.now }
-        ensures unless { result ≡ false → Unreached self.now.trains.now self.now.stops.now layer.number self.now.query.now.origin arrivals.now train }
+        ensures out_of_reach { result ≡ false → OutOfReach self.now.trains.now self.now.stops.now layer.number self.now.query.now.origin arrivals.now train }
+        ensures within_reach { result ≡ true → WithinReach self.now.trains.now self.now.stops.now layer.number self.now.query.now.origin arrivals.now train }
     {
         for stop in self.trains[train].stops(self.stops) {
             if self.is_at(layer, arrivals, stop.station) {

@@ -7,7 +7,7 @@ use Rattle.search.specs.Layers.{Fills, ShiftAsked, BlankFrom}
 use Rattle.search.specs.Working.{place, layer_at}
 use Rattle.search.proofs.Basis.{Basis, timetable_of}
 use Rattle.search.proofs.FillingLayers.{fills_none, fills_then}
-use Rattle.search.proofs.IdleRuns.{fills_unused, fills_unreached}
+use Rattle.search.proofs.IdleRuns.{fills_unused, fills_out_of_reach}
 use Rattle.search.proofs.RowsAreTrains.{first_first, next_first, last_ends, none_none}
 use Rattle.search.proofs.Unchanged.{linked_same}
 use Rattle.search.proofs.inquiry.Inquiry.fill_shift.Goals as goal
@@ -61,8 +61,8 @@ loop-train-preserved g c =
         | else-usable w ↦
             elim w.else-usable.branch [
               | else-usable-via-then-usable+else-may_be_boarded w' ↦
-                  let none = w'.may_be_boarded.ensures.unless w'.if-may_be_boarded.false in
-                  let idle = fills_unreached m s.query.now s.trains.now s.stops.now basis a.layer.number l.train a.shift (omega arith) l.work l.reached blank a.arrivals.now linked none in
+                  let none = w'.may_be_boarded.ensures.out_of_reach w'.if-may_be_boarded.false in
+                  let idle = fills_out_of_reach m s.query.now s.trains.now s.stops.now basis a.layer.number l.train a.shift (omega arith) l.work l.reached blank a.arrivals.now linked none in
                   rw (w.work-is, w.reached-is, w.found-is ∙ sym (or-false l.found))
                   (fills_then s.ordered before idle (λ runs may. sym w'.if-usable.true ∙ asked ∙ may l.train (omega arith)) (omega arith))
               | else-usable-via-else-usable w' ↦
