@@ -1,5 +1,5 @@
 -- The best change of a chain is the best change at its station.
-use Rattle.std.proofs.Common.{◌≡◌, ℕ, suc, ◌+◌, ◌*◌, ◌<◌, ◌≤◌, Bool, true, false, ◌&&◌, ◌||◌, T, List, length, get_or, Some, None, Option, sym, refl, ap, ◌∙◌, subst, inl, inr, arith}
+use Rattle.std.proofs.Common.{◌≡◌, ℕ, suc, ◌+◌, ◌*◌, ◌<◌, ◌≤◌, Bool, true, false, ◌&&◌, ◌||◌, T, List, length, get_or, is_some, Some, None, Option, sym, refl, ap, ap₂, ◌∙◌, subst, inl, inr, leb→le, arith}
 use Rattle.std.proofs.lemmas.Bool.{cases_lt}
 use Rattle.std.proofs.lemmas.Option.{same_Some}
 use Rattle.tariff.specs.Laws.{Connex, Transitive}
@@ -15,12 +15,16 @@ use Rattle.connection.specs.declared.label.Label.{Label}
 use Rattle.connection.specs.declared.ride.Shift.{Shift}
 use Rattle.connection.proofs.Best.{refl_from, best_same, best_cheaper}
 use Rattle.connection.proofs.Tests.{both_left, both_right, both_from}
-use Rattle.search.specs.Chains.{ArrivesAt, Link, Chained, behind}
+use Rattle.search.specs.Chains.{never, ArrivesAt, Link, Chained, behind}
 use Rattle.search.specs.Changing.{changed, ChangesAt, Changes}
 use Rattle.search.specs.Working.{place}
 use Rattle.search.specs.declared.chains.Arrivals.{Arrivals}
 use Rattle.search.proofs.Chosen.{chosen_connex, chosen_trans}
 use Rattle.search.proofs.RowsAreTrains.{place_below, same_place}
+
+-- who catches a train has come by the time that it leaves
+came_by : (arrived leaving : ℕ) → T (can_catch arrived leaving) → arrived ≤ leaving
+came_by arrived leaving h = leb→le arrived leaving h
 
 -- what the labels of the places from b on make
 abbrev pub ChangesFrom : {A : Type 0} (m : Meaning A) (stops : List StopRow) (label : Shift → ℕ → Option (Label A)) (station until board b : ℕ) → Label A → Type 0
@@ -97,16 +101,22 @@ module _ {A : Type 0} (m : Meaning A) (connex : Connex m) (transitive : Transiti
   changes_all best b =
       best_same (no_dearer m) (From 0) (Changes m stops label station until board) best (λ l c. (c.0, (c.1, c.3))) (λ l c. (c.0, c.1.0, omega arith, c.1.1)) b
 
--- where nobody has come to the station, there is no change
-pub no_changes : {A : Type 0} (m : Meaning A) (stops : List StopRow) (label : Shift → ℕ → Option (Label A)) (arrivals : Arrivals) (station until board : ℕ) → Chained stops label (3 * length stops) arrivals → station ≤ 1023 → get_or arrivals.heads station None ≡ None → Best (no_dearer m) (Changes m stops label station until board) None
-no_changes m stops label arrivals station until board chained known none l c =
-    let link = subst (Link stops label station (3 * length stops)) none (chained.first station known) in
+-- where nobody has come to the station by then, there is no change
+pub no_changes : {A : Type 0} (m : Meaning A) (stops : List StopRow) (label : Shift → ℕ → Option (Label A)) (arrivals : Arrivals A) (station until board : ℕ) → Chained stops label (3 * length stops) arrivals → until < get_or arrivals.earliest station never → Best (no_dearer m) (Changes m stops label station until board) None
+no_changes m stops label arrivals station until board chained soon l c =
     let there = c.1.1 in
-    let z : ◌≡◌ {A = ℕ} 0 1 = cc (sym there.held ∙ link.passed_over c.0 c.1.0 there.inside (omega arith) (place_below c.0 (length stops) c.1.0 there.inside) there.here) in
-    absurd (omega arith)
+    let who : ArrivesAt stops label station (place (length stops) c.0 c.1.0) = record { shift = c.0; row = c.1.0; inside = there.inside; is = refl; here = there.here; labelled = ap is_some there.held } in
+    let came = chained.not_before station (place (length stops) c.0 c.1.0) (place_below c.0 (length stops) c.1.0 there.inside) who in
+    absurd (omega (arith, came, came_by (arrival (stop_at stops c.1.0) + midnight c.0) until there.in_time))
 
 -- the station of a place is that of the row that it stands for
 pub arrives_here : {A : Type 0} (stops : List StopRow) (label : Shift → ℕ → Option (Label A)) (station x : ℕ) (s : Shift) (row : ℕ) → ArrivesAt stops label station x → row < length stops → x ≡ place (length stops) s row → (stop_at stops row).station ≡ station
 arrives_here stops label station x s row a inside is =
     let e = same_place s a.shift (length stops) row a.row inside a.inside (sym is ∙ a.is) in
     ap (λ r. (stop_at stops r).station) e.1 ∙ a.here
+
+-- and its label that of the row
+pub arrives_labelled : {A : Type 0} (stops : List StopRow) (label : Shift → ℕ → Option (Label A)) (station x : ℕ) (s : Shift) (row : ℕ) → ArrivesAt stops label station x → row < length stops → x ≡ place (length stops) s row → is_some (label s row) ≡ true
+arrives_labelled stops label station x s row a inside is =
+    let e = same_place s a.shift (length stops) row a.row inside a.inside (sym is ∙ a.is) in
+    ap₂ (λ t r. is_some (label t r)) e.0 e.1 ∙ a.labelled

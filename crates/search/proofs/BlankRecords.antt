@@ -1,6 +1,8 @@
 -- Tables that are blank from a place on.
-use Rattle.std.proofs.Common.{◌≡◌, true, T, ◌&&◌, ◌⊎◌, inl, inr, subst, eqb, eqb→eq, ℕ, zero, suc, ◌+◌, ◌-◌, ◌<◌, ◌≤◌, ◌≢◌, List, [], ◌∷◌, ◌++◌, length, get_or, set, drop, replicate, Some, None, Option, sym, refl, ap, ◌∙◌, ap₂, arith, get_or-set_other}
-use Rattle.std.proofs.lemmas.List.{set-get_or, get_or_past, replicate-append-replicate}
+use Rattle.std.proofs.Common.{◌≡◌, true, T, ◌&&◌, ◌⊎◌, inl, inr, subst, eqb, eqb→eq, ℕ, zero, suc, ◌+◌, ◌-◌, ◌<◌, ◌≤◌, ◌≢◌, List, [], ◌∷◌, ◌++◌, length, get_or, set, take, drop, replicate, Some, None, Option, sym, refl, ap, ◌∙◌, ap₂, arith, get_or-set_other}
+use Rattle.std.proofs.lemmas.List.{set-get_or, get_or_past, get_or-take, get_or-drop, get_or-append_right, length-replicate, length-take-le, replicate-append-replicate}
+use Rattle.std.proofs.lemmas.Slice.{take-put_mid, take-put_mid_below, drop-put_mid}
+use borrow.Rule.Slice.PartMut.{put_mid}
 use Rattle.std.proofs.lemmas.Bool.{cases_lt}
 use Rattle.std.specs.Option.{is_none}
 use Rattle.connection.specs.declared.label.Label.{Label}
@@ -58,6 +60,39 @@ module _ {A : Type 0} where
       go : (z : ℕ) → (z < n) ⊎ (n ≤ z) → get_or table z blank ≡ blank
       go z (inl l) = h z l
       go z (inr l) = get_or_past table z blank (omega (arith, all, l))
+
+  -- ---- a part is blanked
+  module _ (a k : ℕ) (table : List (WorkRecord A)) (room : a + k ≤ length table) where
+    abbrev pub with_part : List (WorkRecord A)
+    with_part = put_mid a k table (replicate k blank)
+
+    pub part_blank : (z : ℕ) → a ≤ z → z < a + k → get_or with_part z blank ≡ blank
+    part_blank z low high =
+        sym (get_or-take (a + k) with_part z blank high)
+        ∙ ap (λ t. get_or t z blank) (take-put_mid a k table (replicate k blank) (a + k) (ap (λ n. a + n) (sym (length-replicate {A = WorkRecord A} k blank))) (omega arith))
+        ∙ get_or-append_right (take a table) (replicate k blank) a z blank (length-take-le a table (omega arith)) low
+        ∙ blank_replicate k (z - a) (omega arith)
+
+    outside : (z : ℕ) → (z < a) ⊎ (a + k ≤ z) → get_or with_part z blank ≡ get_or table z blank
+    outside z (inl l) =
+        sym (get_or-take a with_part z blank l)
+        ∙ ap (λ t. get_or t z blank) (take-put_mid_below a k table (replicate k blank) a (omega arith) (omega arith))
+        ∙ get_or-take a table z blank l
+    outside z (inr g) =
+        let e : a + k + (z - (a + k)) ≡ z = omega arith in
+        ap (λ i. get_or with_part i blank) (sym e)
+        ∙ sym (get_or-drop (a + k) with_part (z - (a + k)) blank)
+        ∙ ap (λ t. get_or t (z - (a + k)) blank) (drop-put_mid a k table (replicate k blank) (a + k) (omega arith) (omega arith) (length-replicate {A = WorkRecord A} k blank))
+        ∙ get_or-drop (a + k) table (z - (a + k)) blank
+        ∙ ap (λ i. get_or table i blank) e
+
+    -- what was blank still is
+    pub still_blank : (z : ℕ) → get_or table z blank ≡ blank → get_or with_part z blank ≡ blank
+    still_blank z was =
+        elim (cases_lt z a) [
+          | inl l ↦ outside z (inl l) ∙ was
+          | inr low ↦ elim (cases_lt z (a + k)) [ inl high ↦ part_blank z low high | inr g ↦ outside z (inr g) ∙ was ]
+        ]
 
   same : (r : WorkRecord A) → r.total ≡ None → r.board ≡ 0 → r.from ≡ 0 → r ≡ blank
   same r et eb ef i = record { total = et i; board = eb i; from = ef i }

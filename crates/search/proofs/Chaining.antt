@@ -1,18 +1,18 @@
 -- Chains that grow place by place.
-use Rattle.std.proofs.Common.{◌≡◌, ℕ, ◌+◌, ◌<◌, ◌≤◌, true, false, ◌≢◌, ◌⊎◌, List, length, get_or, set, replicate, is_some, Some, None, Option, sym, refl, ap, ◌∙◌, subst, inl, inr, arith, get_or-set_other, get_or-set_same}
+use Rattle.std.proofs.Common.{◌≡◌, ℕ, ◌+◌, ◌<◌, ◌≤◌, true, false, ◌≢◌, ◌⊎◌, min, List, length, get_or, set, replicate, is_some, Some, None, Option, sym, refl, ap, ap₂, ◌∙◌, subst, inl, inr, arith, get_or-set_other, get_or-set_same}
 use Rattle.std.proofs.lemmas.List.{length-set, length-replicate, get_or-replicate}
 use Rattle.std.proofs.lemmas.Bool.{cases_lt}
 use Rattle.book.specs.Rules.{stop_at}
 use Rattle.book.specs.declared.rows.StopRow.{StopRow}
+use Rattle.connection.specs.Clock.{midnight}
+use Rattle.connection.specs.Rides.{arrival}
 use Rattle.connection.specs.declared.label.Label.{Label}
 use Rattle.connection.specs.declared.ride.Shift.{Shift}
-use Rattle.search.specs.Chains.{with_arrival, arrived, ArrivesAt, Link, Chained}
-use Rattle.search.specs.Records.{record_of}
-use Rattle.search.specs.Working.{place, layer_at, label_in}
+use Rattle.search.specs.Chains.{never, cleared, with_arrival, arrived, ArrivesAt, Link, Chained}
+use Rattle.search.specs.Working.{place}
 use Rattle.search.specs.declared.chains.Arrivals.{Arrivals}
-use Rattle.search.specs.declared.record.WorkRecord.{WorkRecord}
+use Rattle.search.specs.declared.ends.End.{End}
 use Rattle.search.proofs.RowsAreTrains.{place_below, same_place}
-use Rattle.search.proofs.WrittenRecords.{stands_at, kept_ahead, held_here}
 
 pub not_some : {A : Type 0} (o : Option A) → is_some o ≡ false → o ≡ None
 not_some None e = refl
@@ -24,15 +24,17 @@ no_label (Some a) s e = let z : ◌≡◌ {A = ℕ} 0 1 = cc in absurd (omega ar
 
 module _ {A : Type 0} (stops : List StopRow) where
   -- ---- no place is taken yet
-  pub chained_none : (label : Shift → ℕ → Option (Label A)) (nexts : List (Option ℕ)) → length nexts ≡ 12288 → Chained stops label 0 (record { heads = replicate 1024 None; nexts = nexts })
-  chained_none label nexts long =
+  pub chained_none : (label : Shift → ℕ → Option (Label A)) (c : Arrivals A) (known : Option (End A)) → length c.nexts ≡ 12288 → Chained stops label 0 (cleared c known)
+  chained_none label c known long =
       record {
         long_heads = length-replicate {A = Option ℕ} 1024 None;
         long_nexts = long;
         first = λ station h.
             subst (Link stops label station 0) (sym (get_or-replicate 1024 station None None (omega arith)))
             (record { ahead = omega arith; passed_over = λ s row i a b e. absurd (omega arith); arrives = tt });
+        long_earliest = length-replicate 1024 never;
         next = λ station x h a. absurd (omega arith);
+        not_before = λ station x h w. absurd (omega arith);
       }
 
   -- ---- chains speak only of the labels ahead
@@ -41,7 +43,7 @@ module _ {A : Type 0} (stops : List StopRow) where
     arrives_same station x h w =
         record { shift = w.shift; row = w.row; inside = w.inside; is = w.is; here = w.here; labelled = ap is_some (same w.shift w.row w.inside (omega (arith, w.is))) ∙ w.labelled }
 
-    arrives_back : (station x : ℕ) → x < a → ArrivesAt stops label' station x → ArrivesAt stops label station x
+    abbrev arrives_back : (station x : ℕ) → x < a → ArrivesAt stops label' station x → ArrivesAt stops label station x
     arrives_back station x h w =
         record { shift = w.shift; row = w.row; inside = w.inside; is = w.is; here = w.here; labelled = ap is_some (sym (same w.shift w.row w.inside (omega (arith, w.is)))) ∙ w.labelled }
 
@@ -55,13 +57,15 @@ module _ {A : Type 0} (stops : List StopRow) where
           arrives = arrives_same station x (omega (arith, l.ahead)) l.arrives;
         }
 
-    pub chained_same : (c : Arrivals) → Chained stops label a c → Chained stops label' a c
+    pub chained_same : (c : Arrivals A) → Chained stops label a c → Chained stops label' a c
     chained_same c h =
         record {
           long_heads = h.long_heads;
           long_nexts = h.long_nexts;
+          long_earliest = h.long_earliest;
           first = λ station known. link_same station a (get_or c.heads station None) (omega arith) (h.first station known);
           next = λ station x l w. link_same station x (get_or c.nexts x None) (omega arith) (h.next station x l (arrives_back station x l w));
+          not_before = λ station x l w. h.not_before station x l (arrives_back station x l w);
         }
 
   module _ (label : Shift → ℕ → Option (Label A)) where
@@ -74,13 +78,15 @@ module _ {A : Type 0} (stops : List StopRow) where
         }
 
     -- ---- places without a label are passed over
-    pub chained_over : (a b : ℕ) (c : Arrivals) → a ≤ b → ((s : Shift) (row : ℕ) → row < length stops → a ≤ place (length stops) s row → place (length stops) s row < b → label s row ≡ None) → Chained stops label a c → Chained stops label b c
+    pub chained_over : (a b : ℕ) (c : Arrivals A) → a ≤ b → ((s : Shift) (row : ℕ) → row < length stops → a ≤ place (length stops) s row → place (length stops) s row < b → label s row ≡ None) → Chained stops label a c → Chained stops label b c
     chained_over a b c h none w =
         record {
           long_heads = w.long_heads;
           long_nexts = w.long_nexts;
+          long_earliest = w.long_earliest;
           first = λ station known. link_on station a b (get_or c.heads station None) h (λ s row i lo hi e. none s row i lo hi) (w.first station known);
           next = λ station x l r. w.next station x (before station x l r (cases_lt x a)) r;
+          not_before = λ station x l r. w.not_before station x (before station x l r (cases_lt x a)) r;
         }
       where
         before : (station x : ℕ) → x < b → ArrivesAt stops label station x → (x < a) ⊎ (a ≤ x) → x < a
@@ -88,7 +94,7 @@ module _ {A : Type 0} (stops : List StopRow) where
         before station x l r (inr g) = no_label (label r.shift r.row) r.labelled (none r.shift r.row r.inside (omega (arith, r.is)) (omega (arith, r.is)))
 
     -- ---- one more place
-    module _ (s : Shift) (row : ℕ) (inside : row < length stops) (few : length stops ≤ 4096) (known : (stop_at stops row).station ≤ 1023) (c : Arrivals) (so_far : Chained stops label (place (length stops) s row) c) where
+    module _ (s : Shift) (row : ℕ) (inside : row < length stops) (few : length stops ≤ 4096) (known : (stop_at stops row).station ≤ 1023) (c : Arrivals A) (minute : ℕ) (minute_is : minute ≡ arrival (stop_at stops row) + midnight s) (so_far : Chained stops label (place (length stops) s row) c) where
       abbrev at : ℕ
       at = place (length stops) s row
 
@@ -106,8 +112,8 @@ module _ {A : Type 0} (stops : List StopRow) where
           skip s' row' i lo hi = let w = only s' row' i lo hi in subst (λ (r : ℕ). label s' r ≡ None) w.1 (subst (λ (t : Shift). label t row ≡ None) w.0 none)
 
       module _ (some : is_some (label s row) ≡ true) where
-        abbrev c' : Arrivals
-        c' = with_arrival c station at
+        abbrev c' : Arrivals A
+        c' = with_arrival c station minute at
 
         here : Link stops label station (at + 1) (Some at)
         here =
@@ -145,24 +151,49 @@ module _ {A : Type 0} (stops : List StopRow) where
             (subst (λ (y : ℕ). Link stops label y at (get_or c'.nexts at None)) st_is
             (subst (Link stops label station at) (sym (get_or-set_same c.nexts at (get_or c.heads station None) None w)) (so_far.first station known)))
 
+        abbrev soonest : ℕ
+        soonest = min (get_or c.earliest station never) minute
+
+        not_before_else : (st x : ℕ) → x < at + 1 → (r : ArrivesAt stops label st x) → ((x < at) ⊎ (at ≤ x)) → st ≢ station → get_or c'.earliest st never ≤ arrival (stop_at stops r.row) + midnight r.shift
+        not_before_else st x l r (inl g) ne = omega (arith, so_far.not_before st x g r, get_or-set_other c.earliest station st soonest never ne)
+        not_before_else st x l r (inr g) ne =
+            let who = only r.shift r.row r.inside (omega (arith, r.is)) (omega (arith, r.is)) in
+            absurd (ne (sym (ap (λ i. (stop_at stops i).station) who.1 ∙ r.here)))
+
+        not_before_at : (st x : ℕ) → x < at + 1 → (r : ArrivesAt stops label st x) → ((x < at) ⊎ (at ≤ x)) → ((st < station) ⊎ (station ≤ st)) → ((station < st) ⊎ (st ≤ station)) → get_or c'.earliest st never ≤ arrival (stop_at stops r.row) + midnight r.shift
+        not_before_at st x l r (inl g) (inr a) (inr b) =
+            let e : station ≡ st = omega arith in
+            let w : station < length c.earliest = omega (arith, so_far.long_earliest) in
+            let was = so_far.not_before st x g r in
+            let now : get_or c'.earliest st never ≡ soonest = ap (λ y. get_or c'.earliest y never) (sym e) ∙ get_or-set_same c.earliest station soonest never w in
+            let less : soonest ≤ get_or c.earliest st never = omega (arith, ap (λ y. get_or c.earliest y never) e) in
+            omega (arith, was, now, less)
+        not_before_at st x l r (inr g) (inr a) (inr b) =
+            let e : station ≡ st = omega arith in
+            let w : station < length c.earliest = omega (arith, so_far.long_earliest) in
+            let who = only r.shift r.row r.inside (omega (arith, r.is)) (omega (arith, r.is)) in
+            let now : get_or c'.earliest st never ≡ soonest = ap (λ y. get_or c'.earliest y never) (sym e) ∙ get_or-set_same c.earliest station soonest never w in
+            let when_is : minute ≡ arrival (stop_at stops r.row) + midnight r.shift = minute_is ∙ ap₂ (λ j t. arrival (stop_at stops j) + midnight t) who.1 who.0 in
+            omega (arith, now, when_is)
+        not_before_at st x l r p (inl a) q = not_before_else st x l r p (omega arith)
+        not_before_at st x l r p (inr a) (inl b) = not_before_else st x l r p (omega arith)
+
         add_some : Chained stops label (at + 1) c'
         add_some =
             record {
               long_heads = length-set c.heads station (Some at) ∙ so_far.long_heads;
               long_nexts = length-set c.nexts at (get_or c.heads station None) ∙ so_far.long_nexts;
               first = λ st h. first_at st h (cases_lt st station) (cases_lt station st);
+              long_earliest = length-set c.earliest station (min (get_or c.earliest station never) minute) ∙ so_far.long_earliest;
               next = λ st x l r. next_at st x l r (cases_lt x at);
+              not_before = λ st x l r. not_before_at st x l r (cases_lt x at) (cases_lt st station) (cases_lt station st);
             }
 
-      pub chained_more : (o : Option (Label A)) → label s row ≡ o → Chained stops label (at + 1) (arrived c station at o)
+      pub chained_more : (o : Option (Label A)) → label s row ≡ o → Chained stops label (at + 1) (arrived c station minute at o)
       chained_more None e = add_none e
       chained_more (Some l) e = add_some (ap is_some e)
 
--- ---- the record of a row of a layer is written, and its label is taken into the chains
-pub chained_written : {A : Type 0} (stops : List StopRow) (few : length stops ≤ 4096) (layer : ℕ) (s : Shift) (row at : ℕ) (inside : row < length stops) (known : (stop_at stops row).station ≤ 1023) (at_is : at ≡ layer_at (length stops) layer + place (length stops) s row) (old new : List (WorkRecord A)) (o : Option (Label A)) → at < length old → new ≡ set old at (record_of o) → (c : Arrivals) → Chained stops (label_in (length stops) old layer) (place (length stops) s row) c → Chained stops (label_in (length stops) new layer) (place (length stops) s row + 1) (arrived c (stop_at stops row).station (place (length stops) s row) o)
-chained_written {A} stops few layer s row at inside known at_is old new o room is_new c h =
-    chained_more stops (label_in (length stops) new layer) s row inside few known c (chained_same stops (label_in (length stops) old layer) (label_in (length stops) new layer) (place (length stops) s row) same c h) o (held_here (length stops) layer s row at at_is old new o is_new room)
-  where
-    same : (s' : Shift) (row' : ℕ) → row' < length stops → place (length stops) s' row' < place (length stops) s row → label_in (length stops) new layer s' row' ≡ label_in (length stops) old layer s' row'
-    same s' row' i g =
-        kept_ahead (length stops) layer s row at at_is old new o is_new layer s' row' (omega (arith, g, at_is, stands_at (length stops) layer s row at at_is old new o is_new layer (place (length stops) s' row') s' row' refl))
+-- a label that is there is taken
+pub arrived_some : {A : Type 0} (c : Arrivals A) (station minute x : ℕ) (o : Option (Label A)) → is_some o ≡ true → arrived c station minute x o ≡ with_arrival c station minute x
+arrived_some c station minute x None e = let z : ◌≡◌ {A = ℕ} 0 1 = cc in absurd (omega arith)
+arrived_some c station minute x (Some l) e = refl

@@ -24,9 +24,10 @@ use Rattle.connection.proofs.Tests.{both_left, both_right, both_from}
 use Rattle.connection.proofs.Times.{Punctual, on_time}
 use Rattle.search.specs.Answers.{Finds}
 use Rattle.search.specs.Ends.{known_total, is_end, Ends, Known}
-use Rattle.search.specs.Layers.{row_of, Trail, Holds, Filled, AllLayers}
+use Rattle.search.specs.Layers.{row_of, Trail, Holds, Filled, AllLayers, AllFilled}
 use Rattle.search.specs.Working.{place, layer_at, label_in}
 use Rattle.search.specs.declared.ends.End.{End}
+use Rattle.search.specs.declared.reached.Reached.{Reached}
 use Rattle.search.specs.declared.record.WorkRecord.{WorkRecord}
 use Rattle.search.proofs.Basis.{Basis}
 use Rattle.search.proofs.KnownEnds.{layer_ahead}
@@ -45,6 +46,10 @@ pub record Searched {A : Type 0} (m : Meaning A) (runs : Pairs) (q : Query) (row
   pub all : AllLayers rows (length stops) table q layers
   pub known_end : Known stops table q.destination (layer_at (length stops) layers) m end
   pub filled : Filled m runs q rows stops (known_total end) table layers
+
+pub searched : {A : Type 0} (m : Meaning A) (runs : Pairs) (q : Query) (rows : List TrainRow) (stops : List StopRow) (May : Pairs → Type 0) (table : List (WorkRecord A)) (reached : Reached A) → Basis m rows stops → (all : AllFilled m q rows stops May table reached) → May runs → Searched m runs q rows stops table all.layers reached.end
+searched m runs q rows stops May table reached basis all may =
+    record { basis = basis; few = all.few; all = all.all; known_end = all.known; filled = all.filled runs may }
 
 module _ {A : Type 0} {m : Meaning A} {runs : Pairs} {q : Query} {rows : List TrainRow} {stops : List StopRow} {table : List (WorkRecord A)} {layers : ℕ} {end : Option (End A)} (known : Searched m runs q rows stops table layers end) where
   abbrev basis : Basis m rows stops

@@ -30,7 +30,7 @@ module _ {A : Type 0} {m : Meaning A} {q : Query} {rows : List TrainRow} {stops 
         nothing = λ e n s i ln li low high. absurd (omega arith);
         known = λ h. h;
         no_dearer = λ t h. h;
-        chained = λ h. h;
+        noted = λ h. h;
         settled = λ runs may filled n s i ln li low high. absurd (omega arith);
       }
 
@@ -59,7 +59,7 @@ module _ {A : Type 0} {m : Meaning A} {q : Query} {rows : List TrainRow} {stops 
               of_both (λ n s i o. o ≡ None) n s i (λ h. a.nothing none.0 n s i ln li low h) (λ h. b.nothing none.1 n s i ln li h high);
           known = λ h. b.known (a.known h);
           no_dearer = λ t h. b.no_dearer t (a.no_dearer t h);
-          chained = λ h. b.chained (a.chained h);
+          noted = λ h. b.noted (a.noted h);
           settled = λ runs may filled n s i ln li low high.
               let earlier = filled_still m runs q rows stops ok before.end between.end a.no_dearer layer old filled in
               of_both (λ n s i o. Holds m runs q rows stops (known_total after.end) old layer n s i o) n s i

@@ -13,26 +13,28 @@ use Rattle.connection.specs.Labels.{hop_at, stand_at}
 use Rattle.connection.specs.Prices.{hop, stand}
 use Rattle.connection.specs.Rides.{stops_at, stop_of}
 use Rattle.connection.specs.Settled.{extended, no_dearer, Sooner, Hopeless, Excused, SettlesBoarding}
-use Rattle.connection.specs.Ways.{Arrives}
+use Rattle.connection.specs.Ways.{Arrives, Boards}
 use Rattle.connection.specs.declared.label.Label.{Label}
 use Rattle.connection.specs.declared.query.Query.{Query}
 use Rattle.connection.specs.declared.ride.Shift.{Shift}
 use Rattle.connection.proofs.Onward.{settles_first_stop, settles_next_stop, settles_excused}
 use Rattle.connection.proofs.Times.{Punctual, on_time}
-use Rattle.search.specs.Chains.{arrived, Chained}
 use Rattle.search.specs.Ends.{ends_no_dearer, known_total, is_end, end_here, Known, NoDearer}
 use Rattle.search.specs.Layers.{row_of, Trail, Holds, Filled, UnchangedBelow, BlankFrom, NoLabelBetween, SettledBetween, Fills, RunAsked, run_begins, run_ends}
+use Rattle.search.specs.Notes.{noted as with_label, Noted}
 use Rattle.search.specs.Records.{record_of, label_of}
-use Rattle.search.specs.Working.{number, place, layer_at, part_at, label_at, label_in, hopeless, beaten, if_worth_following}
+use Rattle.search.specs.Working.{number, place, layer_at, part_at, label_at, label_in, hopeless, beaten, if_promising, if_worth_following}
 use Rattle.search.specs.declared.ends.End.{End}
 use Rattle.search.specs.declared.reached.Reached.{Reached}
 use Rattle.search.specs.declared.record.WorkRecord.{WorkRecord}
 use Rattle.search.proofs.Basis.{Basis}
 use Rattle.search.proofs.BeatenLabels.{Beater, beater, is_hopeless}
 use Rattle.search.proofs.BlankRecords.{blank_less, blank_behind}
-use Rattle.search.proofs.Chaining.{not_some, chained_written}
+use Rattle.search.proofs.Chaining.{not_some}
 use Rattle.search.proofs.KnownEnds.{cheaper_no_dearer, known_more}
-use Rattle.search.proofs.RowsAreTrains.{fits, count_is, stop_is, same_row, same_place}
+use Rattle.search.proofs.NotedLabels.{noted_written}
+use Rattle.search.proofs.PromisingLabels.{settles_promising}
+use Rattle.search.proofs.RowsAreTrains.{fits, count_is, stop_is, same_row, same_place, place_below}
 use Rattle.search.proofs.Unchanged.{label_same, unchanged_sym, boarding_same, filled_same, holds_still, filled_still}
 use Rattle.search.proofs.WrittenRecords.{written_same, written_here, unchanged_still}
 
@@ -64,7 +66,7 @@ module _ {A : Type 0} (m : Meaning A) (q : Query) (rows : List TrainRow) (stops 
     pub nothing : found ≡ false → (j : ℕ) → j < i → label_at new (start + j) ≡ None
     pub known_end : Known stops old q.destination (layer_at size layer + place size s first) m before.end → Known stops new q.destination (start + i) m now.end
     pub no_dearer : NoDearer m before.end now.end
-    pub chained : Chained stops (label_in size old layer) (place size s first) before.arrivals → Chained stops (label_in size new layer) (place size s first + i) now.arrivals
+    pub noted : Noted size layer (place size s first) old before.notes → Noted size layer (place size s first + i) new now.notes
     pub settled : When (λ runs. (j : ℕ) → j < i → Holds m runs q rows stops (known_total now.end) old layer n s j (label_at new (start + j))) old
     pub coming : When (λ runs. i < count → Holds m runs q rows stops (known_total now.end) old layer n s i aboard) old
 
@@ -89,7 +91,7 @@ module _ {A : Type 0} (m : Meaning A) (q : Query) (rows : List TrainRow) (stops 
           nothing = λ e j h. absurd (omega arith);
           known_end = subst (λ (x : ℕ). Known stops old q.destination x m before.end) (omega (arith, start_is));
           no_dearer = λ t h. h;
-          chained = subst (λ (x : ℕ). Chained stops (label_in size old layer) x before.arrivals) (omega arith);
+          noted = subst (λ (x : ℕ). Noted size layer x old before.notes) (omega arith);
           settled = λ runs may filled j h. absurd (omega arith);
           coming = λ runs may filled h. settles_first_stop m basis.connex basis.transitive basis.grows basis.keeps basis.starts basis.counts trains punctual runs q (known_total before.end) (Trail rows size old layer) layer n s;
         }
@@ -124,7 +126,7 @@ module _ {A : Type 0} (m : Meaning A) (q : Query) (rows : List TrainRow) (stops 
           go false e false f = h
 
     -- ---- one stop more
-    module _ (old new : List (WorkRecord A)) (i : ℕ) (found : Bool) (aboard KeptLabel : Option (Label A)) (now now' : Reached A) (state : FilledTo old new i found aboard now) (li : i < count) (room : start + i < length new) (is_kept : KeptLabel ≡ if_worth_following m size new (place size s (row_of rows n i)) (known_total now.end) layer aboard) (next : List (WorkRecord A)) (is_next : next ≡ set new (start + i) (record_of KeptLabel)) (is_known : now'.end ≡ cheaper (ends_no_dearer m) now.end (end_here (is_end (stop_at stops (row_of rows n i)) q.destination) layer (place size s (row_of rows n i)) KeptLabel)) (is_arrived : now'.arrivals ≡ arrived now.arrivals (stop_at stops (row_of rows n i)).station (place size s (row_of rows n i)) KeptLabel) where
+    module _ (old new : List (WorkRecord A)) (i : ℕ) (found : Bool) (aboard KeptLabel : Option (Label A)) (now now' : Reached A) (state : FilledTo old new i found aboard now) (li : i < count) (room : start + i < length new) (few_records : start + i < 64 * 3072) (is_kept : KeptLabel ≡ if_worth_following m size new (place size s (row_of rows n i)) (known_total now.end) layer aboard) (next : List (WorkRecord A)) (is_next : next ≡ set new (start + i) (record_of KeptLabel)) (is_known : now'.end ≡ cheaper (ends_no_dearer m) now.end (end_here (is_end (stop_at stops (row_of rows n i)) q.destination) layer (place size s (row_of rows n i)) KeptLabel)) (is_noted : now'.notes ≡ with_label now.notes (place size s (row_of rows n i)) (start + i) KeptLabel) where
       abbrev known : Option (End A)
       known = now.end
 
@@ -152,15 +154,16 @@ module _ {A : Type 0} (m : Meaning A) (q : Query) (rows : List TrainRow) (stops 
           let more = known_more m basis.connex basis.transitive stops q.destination layer s (row_of rows n i) (start + i) (omega arith) at_is new next KeptLabel room is_next known known' is_known (state.known_end h) in
           subst (λ (x : ℕ). Known stops next q.destination x m known') (add_assoc start i 1) more
 
-      next_chained : Chained stops (label_in size old layer) (place size s first) before.arrivals → Chained stops (label_in size next layer) (place size s first + (i + 1)) now'.arrivals
-      next_chained h =
+      next_noted : Noted size layer (place size s first) old before.notes → Noted size layer (place size s first + (i + 1)) next now'.notes
+      next_noted h =
           let row = row_of rows n i in
           let inside : row < size = omega (arith, fits rows stops basis.timetable.ordered n ln) in
           let here : place size s first + i ≡ place size s row = add_assoc (number s * size) first i in
-          let so_far = subst (λ (x : ℕ). Chained stops (label_in size new layer) x now.arrivals) here (state.chained h) in
-          let more = chained_written stops basis.timetable.ordered.few_stops layer s row (start + i) inside (basis.timetable.timely.stations row inside) at_is new next KeptLabel room is_next now.arrivals so_far in
+          let so_far = subst (λ (x : ℕ). Noted size layer x new now.notes) here (state.noted h) in
+          let few : place size s row < 12288 = omega (arith, place_below s size row inside, basis.timetable.ordered.few_stops) in
+          let more = noted_written size layer (place size s row) (start + i) at_is few few_records new next room now.notes KeptLabel is_next so_far in
           let there : place size s row + 1 ≡ place size s first + (i + 1) = omega (arith, here) in
-          subst (λ (x : ℕ). Chained stops (label_in size next layer) x now'.arrivals) there (subst (Chained stops (label_in size next layer) (place size s row + 1)) (sym is_arrived) more)
+          subst (λ (x : ℕ). Noted size layer x next now'.notes) there (subst (Noted size layer (place size s row + 1) next) (sym is_noted) more)
 
       kept_holds : When (λ runs. Still runs i KeptLabel) old
       kept_holds runs may filled = still runs i KeptLabel (subst (Holds m runs q rows stops (known_total known) old layer n s i) (sym is_kept) (kept old new state.unchanged known runs filled i li aboard (state.coming runs may filled li)))
@@ -186,20 +189,24 @@ module _ {A : Type 0} (m : Meaning A) (q : Query) (rows : List TrainRow) (stops 
             nothing = λ e. let p = or_none found (is_some KeptLabel) (sym ef ∙ e) in up_to (λ j o. o ≡ None) (state.nothing p.0) (not_some KeptLabel p.1);
             known_end = next_known;
             no_dearer = λ t h. better t (state.no_dearer t h);
-            chained = next_chained;
+            noted = next_noted;
             settled = λ runs may filled. up_to (Still runs) (λ j l. still runs j _ (state.settled runs may filled j l)) (kept_holds runs may filled);
             coming = coming;
           }
 
       -- ---- on to the next stop
-      pub comes_next : (stop there : StopRow) (boarded aboard' : Option (Label A)) → stop ≡ stop_at stops (row_of rows n i) → there ≡ stop_at stops (row_of rows n (i + 1)) → i + 1 < count → ((runs : Pairs) (best : Option A) → RunAsked q (train_row n rows) s true runs → Filled m runs q rows stops best next layer → SettlesBoarding m trains runs q (Trail rows size next layer) best layer n s i boarded) → aboard' ≡ mapped (extended m (hop stop there)) (cheaper (no_dearer m) boarded (mapped (extended m (stand stop)) KeptLabel)) → When (λ runs. i + 1 < count → Still runs (i + 1) aboard') old
-      comes_next stop there boarded aboard' at_stop at_there on boards ea runs may filled h =
+      pub comes_next : (stop there : StopRow) (first_boarded boarded aboard' : Option (Label A)) (c : Option (End A)) → NoDearer m c before.end → stop ≡ stop_at stops (row_of rows n i) → there ≡ stop_at stops (row_of rows n (i + 1)) → i + 1 < count → ((runs : Pairs) (best : Option (End A)) → NoDearer m c best → RunAsked q (train_row n rows) s true runs → Filled m runs q rows stops (known_total best) next layer → SettlesBoarding m trains runs q (Trail rows size next layer) (known_total best) layer n s i first_boarded) → boarded ≡ if_promising m (known_total known') first_boarded → aboard' ≡ mapped (extended m (hop stop there)) (cheaper (no_dearer m) boarded (mapped (extended m (stand stop)) KeptLabel)) → When (λ runs. i + 1 < count → Still runs (i + 1) aboard') old
+      comes_next stop there first_boarded boarded aboard' c worse at_stop at_there on boards eb ea runs may filled h =
           let ss = stops_at trains n in
           let below : UnchangedBelow (layer_at size layer) old next = λ z w. next_unchanged z (omega (arith, layer_before_start)) in
           let back : UnchangedBelow (layer_at size layer) next old = unchanged_sym (layer_at size layer) old next below in
           let best = known_total known' in
           let later = filled_still m runs q rows stops basis.timetable.ordered before.end known' (λ t w. better t (state.no_dearer t w)) layer old filled in
-          let b = boarding_same m runs q rows stops basis.timetable.ordered best layer n s i boarded next old back (boards runs best may (filled_same m runs q rows stops basis.timetable.ordered best layer old next below later)) in
+          let any = boarding_same m runs q rows stops basis.timetable.ordered best layer n s i first_boarded next old back (boards runs known' (λ t w. better t (state.no_dearer t (worse t w))) may (filled_same m runs q rows stops basis.timetable.ordered best layer old next below later)) in
+          let b =
+          subst (SettlesBoarding m trains runs q (Trail rows size old layer) best layer n s i) (sym eb)
+          (settles_promising m best basis.connex basis.transitive best (λ t w. w) _ (λ j. Boards m trains runs q j n s i) layer _ first_boarded any)
+          in
           let is_stop : stop_of trains n i ≡ stop = stop_is rows stops basis.timetable.ordered n i ln li ∙ sym at_stop in
           let is_there : stop_of trains n (suc i) ≡ there = stop_is rows stops basis.timetable.ordered n (suc i) ln (omega arith) ∙ ap (λ j. stop_at stops (row_of rows n j)) (sym (add-one i)) ∙ sym at_there in
           let long : suc i < length ss = omega (arith, count_is rows stops basis.timetable.ordered n ln) in
@@ -246,8 +253,8 @@ module _ {A : Type 0} (m : Meaning A) (q : Query) (rows : List TrainRow) (stops 
       run_blank : BlankFrom (layer_at size layer + place size s (row_of rows n count)) new
       run_blank = blank_less (start + count) (layer_at size layer + place size s (row_of rows n count)) new (omega (arith, start_is, add_assoc (number s * size) first count)) state.blank
 
-      run_chained : Chained stops (label_in size old layer) (place size s first) before.arrivals → Chained stops (label_in size new layer) (place size s (row_of rows n count)) now.arrivals
-      run_chained h = subst (λ (x : ℕ). Chained stops (label_in size new layer) x now.arrivals) (add_assoc (number s * size) first count) (state.chained h)
+      run_noted : Noted size layer (place size s first) old before.notes → Noted size layer (place size s (row_of rows n count)) new now.notes
+      run_noted h = subst (λ (x : ℕ). Noted size layer x new now.notes) (add_assoc (number s * size) first count) (state.noted h)
 
       pub fills_run : Fills m q rows stops layer (RunAsked q (train_row n rows) s true) old new (run_begins rows size n s) (run_ends rows size n s) found before now
-      fills_run = record { unchanged = run_unchanged; blank = λ h. run_blank; nothing = run_nothing; known = run_known; no_dearer = state.no_dearer; chained = run_chained; settled = run_settled }
+      fills_run = record { unchanged = run_unchanged; blank = λ h. run_blank; nothing = run_nothing; known = run_known; no_dearer = state.no_dearer; noted = run_noted; settled = run_settled }

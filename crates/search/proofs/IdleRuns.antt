@@ -1,5 +1,6 @@
 -- Nobody is on board a run that nobody boards, so its blank records settle its stops.
-use Rattle.std.proofs.Common.{◌≡◌, ℕ, zero, suc, ◌+◌, ◌*◌, ◌<◌, ◌≤◌, ◌-◌, Bool, true, false, ◌&&◌, eqb, leb, List, length, Some, None, Option, sym, refl, ap, subst, add_assoc, add-one, arith}
+use Rattle.std.proofs.Common.{◌≡◌, ℕ, zero, suc, ◌+◌, ◌*◌, ◌<◌, ◌≤◌, ◌-◌, Bool, true, false, cond, ◌&&◌, eqb, leb, List, length, Some, None, Option, sym, refl, ap, ap₂, ◌∙◌, subst, add_assoc, add-one, arith}
+use Rattle.std.proofs.lemmas.Bool.{lt-leb}
 use Rattle.tariff.specs.Meaning.{Meaning}
 use Rattle.tariff.specs.declared.step.Kind.TheVariants.{Start}
 use Rattle.book.specs.Answers.{train_row}
@@ -18,7 +19,7 @@ use Rattle.connection.specs.declared.query.Query.{Query}
 use Rattle.connection.specs.declared.ride.Shift.{Shift}
 use Rattle.connection.proofs.Onward.{settles_first_stop, settles_next_stop}
 use Rattle.connection.proofs.Times.{Punctual, on_time}
-use Rattle.search.specs.Chains.{Chained, LinkedBefore, is_at, OutOfReach}
+use Rattle.search.specs.Chains.{never, Chained, promising, there_from, LinkedBefore, OutOfReach}
 use Rattle.search.specs.Ends.{known_total}
 use Rattle.search.specs.Layers.{row_of, Trail, Holds, Filled, BlankFrom, Fills, RunAsked, run_begins, run_ends}
 use Rattle.search.specs.Working.{may_use, number, place, layer_at, part_at, label_in}
@@ -28,9 +29,9 @@ use Rattle.search.specs.declared.record.WorkRecord.{WorkRecord}
 use Rattle.search.proofs.Basis.{Basis}
 use Rattle.search.proofs.BestChange.{no_changes}
 use Rattle.search.proofs.BlankRecords.{blank_less, blank_label}
-use Rattle.search.proofs.Chaining.{not_some, chained_over}
 use Rattle.search.proofs.FillingRuns.{of_the_run}
 use Rattle.search.proofs.KnownEnds.{known_over}
+use Rattle.search.proofs.NotedLabels.{noted_over}
 use Rattle.search.proofs.RowsAreTrains.{fits, count_is}
 use Rattle.search.proofs.WaysToBoard.{boards_nothing, boards_first, boards_later}
 
@@ -66,7 +67,7 @@ module _ {A : Type 0} (m : Meaning A) (q : Query) (rows : List TrainRow) (stops 
           nothing = λ e n' s' i' ln' li' low high. no_label s' (row_of rows n' i') low;
           known = known_over m basis.connex basis.transitive stops q.destination (layer_at size layer + run_begins rows size n s) (layer_at size layer + run_ends rows size n s) table before.end begins blank;
           no_dearer = λ t h. h;
-          chained = chained_over stops (label_in size table layer) (run_begins rows size n s) (run_ends rows size n s) before.arrivals (omega arith) (λ s' row inside low high. no_label s' row low);
+          noted = noted_over size layer (run_begins rows size n s) (run_ends rows size n s) table before.notes (omega arith) blank;
           settled = λ runs may filled n' s' i' ln' li' low high.
               subst (Holds m runs q rows stops (known_total before.end) table layer n' s' i') (sym (no_label s' (row_of rows n' i') low))
               (of_the_run m q rows stops layer n s before basis ln (λ k t j. Holds m runs q rows stops (known_total before.end) table layer k t j None) n' s' i' ln' li' low high
@@ -79,25 +80,30 @@ module _ {A : Type 0} (m : Meaning A) (q : Query) (rows : List TrainRow) (stops 
         fills (RunAsked q (train_row n rows) s false)
         (λ runs may filled i li. boards_nothing m rows stops basis runs q (known_total before.end) n s i ln li (Trail rows size table layer) layer (ap (λ b. b && may_board (stop_at stops (row_of rows n i))) (sym may)))
 
-    -- it may, but one is at no station of it
-    pub fills_out_of_reach : (arrivals : Arrivals) → LinkedBefore stops table layer arrivals → OutOfReach rows stops layer q.origin arrivals n → Fills m q rows stops layer (RunAsked q (train_row n rows) s true) table table (run_begins rows size n s) (run_ends rows size n s) false before before
-    fills_out_of_reach arrivals linked none =
+    -- it may, but has left each of its stations by the time that one is there
+    pub fills_out_of_reach : (arrivals : Arrivals A) → LinkedBefore m stops table layer arrivals before.end → OutOfReach rows stops layer q arrivals n s → Fills m q rows stops layer (RunAsked q (train_row n rows) s true) table table (run_begins rows size n s) (run_ends rows size n s) false before before
+    fills_out_of_reach arrivals linked gone =
         fills (RunAsked q (train_row n rows) s true)
-        (λ runs may filled i li. nobody runs i li layer linked filled (none i li) (may_use runs q (train_row n rows) s && may_board (stop_at stops (row_of rows n i))) refl)
+        (λ runs may filled i li. nobody runs i li layer linked filled (gone i li) (may_use runs q (train_row n rows) s) refl (may_board (stop_at stops (row_of rows n i))) refl)
       where
-        first : (runs : Pairs) (i : ℕ) → i < (train_row n rows).count → (may_use runs q (train_row n rows) s && may_board (stop_at stops (row_of rows n i))) ≡ true → eqb (stop_at stops (row_of rows n i)).station q.origin ≡ false → SettlesBoarding m trains runs q (Trail rows size table 0) (known_total before.end) 0 n s i None
-        first runs i li e far =
-            boards_first m rows stops basis runs q (known_total before.end) n s i ln li table None e
-            (ap (λ b. only_when (b && leb (ready q) (departure (stop_at stops (row_of rows n i)) + midnight s)) (Some (record { total = with m m.empty (stretch Start (departure (stop_at stops (row_of rows n i)) + midnight s - ready q) 0); board = i; from = 0 }))) (sym far))
+        too_early : (i : ℕ) (b : Bool) → eqb (stop_at stops (row_of rows n i)).station q.origin ≡ b → departure (stop_at stops (row_of rows n i)) + midnight s < cond b (ready q) never → (eqb (stop_at stops (row_of rows n i)).station q.origin && leb (ready q) (departure (stop_at stops (row_of rows n i)) + midnight s)) ≡ false
+        too_early i true e h = ap (λ b. b && leb (ready q) (departure (stop_at stops (row_of rows n i)) + midnight s)) e ∙ lt-leb (ready q) (departure (stop_at stops (row_of rows n i)) + midnight s) h
+        too_early i false e h = ap (λ b. b && leb (ready q) (departure (stop_at stops (row_of rows n i)) + midnight s)) e
 
-        nobody : (runs : Pairs) (i : ℕ) → i < (train_row n rows).count → (k : ℕ) → LinkedBefore stops table k arrivals → Filled m runs q rows stops (known_total before.end) table k → is_at arrivals k q.origin (stop_at stops (row_of rows n i)).station ≡ false → (b : Bool) → (may_use runs q (train_row n rows) s && may_board (stop_at stops (row_of rows n i))) ≡ b → SettlesBoarding m trains runs q (Trail rows size table k) (known_total before.end) k n s i None
-        nobody runs i li k linked filled far false e = boards_nothing m rows stops basis runs q (known_total before.end) n s i ln li (Trail rows size table k) k e
-        nobody runs i li zero linked filled far true e = first runs i li e far
-        nobody runs i li (suc k) linked filled far true e =
+        first : (runs : Pairs) (i : ℕ) → i < (train_row n rows).count → (may_use runs q (train_row n rows) s && may_board (stop_at stops (row_of rows n i))) ≡ true → departure (stop_at stops (row_of rows n i)) + midnight s < there_from arrivals 0 q (stop_at stops (row_of rows n i)).station → SettlesBoarding m trains runs q (Trail rows size table 0) (known_total before.end) 0 n s i None
+        first runs i li e h =
+            boards_first m rows stops basis runs q (known_total before.end) n s i ln li table None e
+            (ap (λ b. only_when b (Some (record { total = with m m.empty (stretch Start (departure (stop_at stops (row_of rows n i)) + midnight s - ready q) 0); board = i; from = 0 }))) (sym (too_early i (eqb (stop_at stops (row_of rows n i)).station q.origin) refl h)))
+
+        nobody : (runs : Pairs) (i : ℕ) → i < (train_row n rows).count → (k : ℕ) → LinkedBefore m stops table k arrivals before.end → Filled m runs q rows stops (known_total before.end) table k → (may_board (stop_at stops (row_of rows n i)) ≡ true → departure (stop_at stops (row_of rows n i)) + midnight s < there_from arrivals k q (stop_at stops (row_of rows n i)).station) → (u : Bool) → may_use runs q (train_row n rows) s ≡ u → (b : Bool) → may_board (stop_at stops (row_of rows n i)) ≡ b → SettlesBoarding m trains runs q (Trail rows size table k) (known_total before.end) k n s i None
+        nobody runs i li k linked filled gone false eu b eb = boards_nothing m rows stops basis runs q (known_total before.end) n s i ln li (Trail rows size table k) k (ap (λ x. x && may_board (stop_at stops (row_of rows n i))) eu)
+        nobody runs i li k linked filled gone true eu false eb = boards_nothing m rows stops basis runs q (known_total before.end) n s i ln li (Trail rows size table k) k (ap₂ (λ x y. x && y) eu eb)
+        nobody runs i li zero linked filled gone true eu true eb = first runs i li (ap₂ (λ x y. x && y) eu eb) (gone eb)
+        nobody runs i li (suc k) linked filled gone true eu true eb =
             let row = row_of rows n i in
-            let inside : row < size = omega (arith, fits rows stops basis.timetable.ordered n ln) in
             let until = departure (stop_at stops row) + midnight s in
             let same : suc k - 1 ≡ k = omega arith in
-            let chained = subst (λ (j : ℕ). Chained stops (label_in size table j) (3 * size) arrivals) same (linked (omega arith)) in
-            boards_later m rows stops basis runs q (known_total before.end) (suc k) k table n s i until None (add-one k) filled ln li e refl
-            (no_changes m stops (label_in size table k) arrivals (stop_at stops row).station until i chained (basis.timetable.timely.stations row inside) (not_some _ far))
+            let c = known_total arrivals.known in
+            let chained = subst (λ (j : ℕ). Chained stops (promising m size c table j) (3 * size) arrivals) same (linked.chained (omega arith)) in
+            boards_later m rows stops basis runs q (known_total before.end) c linked.no_dearer (suc k) k table n s i until None (add-one k) filled ln li (ap₂ (λ x y. x && y) eu eb) refl
+            (no_changes m stops (promising m size c table k) arrivals (stop_at stops row).station until i chained (gone eb))

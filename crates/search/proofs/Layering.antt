@@ -33,3 +33,7 @@ part_within size layer s = omega (arith, third s, next_layer size layer, ap (lay
     third DayBefore = omega arith
     third SameDay = omega arith
     third DayAfter = omega arith
+
+-- among so many records as there are in blocks
+pub few_records : (size layer : ℕ) (s : Shift) (row : ℕ) → row < size → size ≤ 4096 → layer ≤ 15 → part_at size layer s + row < 64 * 3072
+few_records size layer s row h few shallow = omega (arith, record_below size layer s row h, layer_most size (layer + 1) (omega arith) few)

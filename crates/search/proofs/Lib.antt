@@ -12,7 +12,11 @@ mod IdleRuns
 mod KnownEnds
 mod LabelsInRecords
 mod Layering
+mod ListedLabels
+mod MissedTrains
+mod NotedLabels
 mod Prefix
+mod PromisingLabels
 mod RowsAreTrains
 mod TrailsAreWritten
 mod Unchanged

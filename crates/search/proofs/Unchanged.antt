@@ -1,5 +1,5 @@
 -- What the layers before a layer tell is the same in two tables that agree on them, and stays so where a cheaper end is known.
-use Rattle.std.proofs.Common.{◌≡◌, ℕ, zero, suc, ◌+◌, ◌*◌, ◌<◌, ◌≤◌, List, [], ◌∷◌, ◌++◌, length, get_or, Option, sym, ap, ◌∙◌, subst, add_assoc, arith}
+use Rattle.std.proofs.Common.{◌≡◌, ℕ, zero, suc, ◌+◌, ◌-◌, ◌*◌, ◌<◌, ◌≤◌, List, [], ◌∷◌, ◌++◌, length, get_or, Option, sym, ap, ◌∙◌, subst, add_assoc, arith}
 use Rattle.tariff.specs.Meaning.{Meaning}
 use Rattle.book.specs.Trains.{trains_in}
 use Rattle.book.specs.declared.rows.StopRow.{StopRow}
@@ -13,11 +13,11 @@ use Rattle.connection.specs.declared.query.Query.{Query}
 use Rattle.connection.specs.declared.ride.Ride.{Ride}
 use Rattle.connection.specs.declared.ride.Shift.{Shift}
 use Rattle.connection.proofs.Settling.{settles_same, excused_more}
-use Rattle.search.specs.Chains.{Chained}
+use Rattle.search.specs.Chains.{LinkedBefore, promising}
 use Rattle.search.specs.Ends.{known_total, NoDearer}
 use Rattle.search.specs.Layers.{InOrder, row_of, Spot, Trail, Holds, Filled, UnchangedBelow}
 use Rattle.search.specs.Records.{blank, label_of}
-use Rattle.search.specs.Working.{number, layer_at, part_at, label_in}
+use Rattle.search.specs.Working.{number, layer_at, part_at, label_in, if_promising}
 use Rattle.search.specs.declared.chains.Arrivals.{Arrivals}
 use Rattle.search.specs.declared.ends.End.{End}
 use Rattle.search.specs.declared.record.WorkRecord.{WorkRecord}
@@ -41,9 +41,14 @@ module _ {A : Type 0} where
       ap label_of (u (part_at size k s + row) (omega (arith, add_assoc (layer_at size k) (number s * size) row, place_below s size row h, next_layer size k, layers_below size (suc k) layer l)))
 
 -- ---- chains
-pub linked_same : {A : Type 0} (stops : List StopRow) (layer k : ℕ) (old new : List (WorkRecord A)) (a : Arrivals) → k < layer → UnchangedBelow (layer_at (length stops) layer) old new → Chained stops (label_in (length stops) old k) (3 * length stops) a → Chained stops (label_in (length stops) new k) (3 * length stops) a
-linked_same stops layer k old new a l u h =
-    chained_same stops (label_in (length stops) old k) (label_in (length stops) new k) (3 * length stops) (λ s row i w. label_same (length stops) k layer s row old new l i u) a h
+pub linked_same : {A : Type 0} (m : Meaning A) (stops : List StopRow) (layer : ℕ) (old new : List (WorkRecord A)) (a : Arrivals A) (before after : Option (End A)) → UnchangedBelow (layer_at (length stops) layer) old new → NoDearer m before after → LinkedBefore m stops old layer a before → LinkedBefore m stops new layer a after
+linked_same m stops layer old new a before after u better h =
+    let size = length stops in
+    let known = known_total a.known in
+    record {
+      chained = λ later. chained_same stops (promising m size known old (layer - 1)) (promising m size known new (layer - 1)) (3 * size) (λ s row i w. ap (if_promising m known) (label_same size (layer - 1) layer s row old new (omega arith) i u)) a (h.chained later);
+      no_dearer = λ t w. better t (h.no_dearer t w);
+    }
 
 -- ---- trails
 module _ {A : Type 0} (m : Meaning A) (runs : Pairs) (q : Query) (rows : List TrainRow) (stops : List StopRow) (ok : InOrder rows stops) where

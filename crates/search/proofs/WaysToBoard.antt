@@ -13,9 +13,9 @@ use Rattle.connection.specs.Clock.{midnight, ready}
 use Rattle.connection.specs.Labels.{goes, boardable, with}
 use Rattle.connection.specs.Prices.{stretch}
 use Rattle.connection.specs.Rides.{can_catch, may_board, may_alight, does_run, offers, arrival, departure, train_in_row, stops_at, stop_of, run_leaves, run_reaches}
-use Rattle.connection.specs.Settled.{no_dearer, SettlesBoarding, SettlesArrival}
+use Rattle.connection.specs.Settled.{no_dearer, Hopeless, SettlesBoarding, SettlesArrival}
 use Rattle.connection.specs.Underway.{ride}
-use Rattle.connection.specs.Ways.{Best, Boards}
+use Rattle.connection.specs.Ways.{Best, Boards, Arrives}
 use Rattle.connection.specs.declared.label.Label.{Label}
 use Rattle.connection.specs.declared.query.Query.{Query}
 use Rattle.connection.specs.declared.ride.Ride.{Ride}
@@ -25,12 +25,14 @@ use Rattle.connection.proofs.Onward.{settles_start, Changed, settles_change}
 use Rattle.connection.proofs.Settling.{settles_none}
 use Rattle.connection.proofs.Tests.{both_left, both_right, both_from, is_true, eq→eqb}
 use Rattle.connection.proofs.Times.{Punctual, on_time}
+use Rattle.search.specs.Chains.{promising}
 use Rattle.search.specs.Changing.{Changes}
 use Rattle.search.specs.Layers.{Timetable, row_of, Trail, Filled}
-use Rattle.search.specs.Working.{may_use, place, label_in}
+use Rattle.search.specs.Working.{may_use, place}
 use Rattle.search.specs.declared.record.WorkRecord.{WorkRecord}
 use Rattle.search.proofs.Basis.{Basis}
 use Rattle.search.proofs.LabelsInRecords.{trail_goes_on}
+use Rattle.search.proofs.PromisingLabels.{promising_held, settles_promising}
 use Rattle.search.proofs.RowsAreTrains.{many, fits, count_is, stop_is, code_is, features_is, spot_of}
 
 module _ {A : Type 0} (m : Meaning A) (rows : List TrainRow) (stops : List StopRow) (basis : Basis m rows stops) (runs : Pairs) (q : Query) (known : Option A) where
@@ -78,9 +80,10 @@ module _ {A : Type 0} (m : Meaning A) (rows : List TrainRow) (stops : List StopR
         (settles_start m basis.connex basis.transitive basis.grows basis.keeps basis.starts basis.counts trains punctual runs q known (Trail rows (length stops) table 0) n s i refl)
 
   -- ---- after a change
-  module _ (k : ℕ) (table : List (WorkRecord A)) (filled : Filled m runs q rows stops known table (suc k)) where
+  -- from the labels of which something can come, where a connection is known at the total c
+  module _ (c : Option A) (worse : (t : A) → Hopeless m c t → Hopeless m known t) (k : ℕ) (table : List (WorkRecord A)) (filled : Filled m runs q rows stops known table (suc k)) where
     abbrev label : ℕ → Shift → ℕ → Option (Label A)
-    label n s i = label_in (length stops) table k s (row_of rows n i)
+    label n s i = promising m (length stops) c table k s (row_of rows n i)
 
     abbrev spot : ℕ → Shift → ℕ → ℕ
     spot n s i = place (length stops) s (row_of rows n i)
@@ -92,10 +95,12 @@ module _ {A : Type 0} (m : Meaning A) (rows : List TrainRow) (stops : List StopR
     on_train n i ln li = omega (arith, count_is rows stops ok.ordered n (in_rows n ln))
 
     settled : (n : ℕ) (s : Shift) (i : ℕ) → n < length trains → i < length (stops_at trains n) → SettlesArrival m trains runs q (Trail rows (length stops) table k) known k n s i (label n s i)
-    settled n s i ln li = filled k n s i (omega arith) (in_rows n ln) (on_train n i ln li)
+    settled n s i ln li =
+        settles_promising m c basis.connex basis.transitive known worse _ (λ j. Arrives m trains runs q j n s i) k _ _ (filled k n s i (omega arith) (in_rows n ln) (on_train n i ln li))
 
     leads : (n : ℕ) (s : Shift) (i : ℕ) (l : Label A) (rides : List Ride) → n < length trains → i < length (stops_at trains n) → label n s i ≡ Some l → Trail rows (length stops) table k l.from rides → Trail rows (length stops) table (suc k) (spot n s i) (rides ++ (ride n s l.board i ∷ []))
-    leads n s i l rides ln li e t = trail_goes_on rows (length stops) table k n s i l rides (in_rows n ln) (on_train n i ln li) e t
+    leads n s i l rides ln li e t =
+        trail_goes_on rows (length stops) table k n s i l rides (in_rows n ln) (on_train n i ln li) (promising_held m c _ l e) t
 
     module _ (n : ℕ) (s : Shift) (i : ℕ) (ln : n < length rows) (li : i < (train_row n rows).count) where
       abbrev here : StopRow
@@ -105,47 +110,47 @@ module _ {A : Type 0} (m : Meaning A) (rows : List TrainRow) (stops : List StopR
       Made = Changed m basis.connex basis.transitive basis.grows basis.keeps basis.starts basis.counts trains punctual runs q known k (Trail rows (length stops) table k) label settled spot n s i
 
       abbrev Possible : Label A → Type 0
-      Possible = Changes m stops (label_in (length stops) table k) here.station (departure here + midnight s) i
+      Possible = Changes m stops (promising m (length stops) c table k) here.station (departure here + midnight s) i
 
       to_made : (l : Label A) → Possible l → Made l
       to_made l x =
           let s' = x.0 in
           let row = x.1.0 in
-          let c = x.1.1 in
-          let w = spot_of rows stops ok.ordered row c.inside in
+          let d = x.1.1 in
+          let w = spot_of rows stops ok.ordered row d.inside in
           let n' = w.0 in
           let i' = w.1 in
           let there : stop_at stops row ≡ stop_of trains n' i' = ap (stop_at stops) w.4 ∙ sym (stop_is rows stops ok.ordered n' i' w.2 w.3) in
           let me : here ≡ stop_of trains n i = sym (same_stop n s i ln li) in
           let at = λ (x y : StopRow). may_alight x && (eqb y.station x.station && can_catch (arrival x + midnight s') (departure y + midnight s)) in
-          let before : T (at (stop_at stops row) here) = both_from (may_alight (stop_at stops row)) _ c.off (both_from _ _ (eq→eqb here.station (stop_at stops row).station (sym c.here)) c.in_time) in
+          let before : T (at (stop_at stops row) here) = both_from (may_alight (stop_at stops row)) _ d.off (both_from _ _ (eq→eqb here.station (stop_at stops row).station (sym d.here)) d.in_time) in
           record {
             train = n';
             shift = s';
             stop = i';
-            before = c.before;
+            before = d.before;
             in_force = omega (arith, many rows stops, w.2);
             on_the_train = omega (arith, count_is rows stops ok.ordered n' w.2, w.3);
             possible = subst T (ap₂ at there me) before;
-            held = ap (λ j. label_in (length stops) table k s' j) (sym w.4) ∙ c.held;
+            held = ap (λ j. promising m (length stops) c table k s' j) (sym w.4) ∙ d.held;
             is =
-                c.is
-                ∙ ap₂ (λ (x y : StopRow). record { total = with m c.before.total (stretch Change (departure y + midnight s - (arrival x + midnight s')) 0); board = i; from = place (length stops) s' row }) there me
-                ∙ ap (λ j. record { total = with m c.before.total (stretch Change (run_leaves trains n s i - run_reaches trains n' s' i') 0); board = i; from = place (length stops) s' j }) w.4;
+                d.is
+                ∙ ap₂ (λ (x y : StopRow). record { total = with m d.before.total (stretch Change (departure y + midnight s - (arrival x + midnight s')) 0); board = i; from = place (length stops) s' row }) there me
+                ∙ ap (λ j. record { total = with m d.before.total (stretch Change (run_leaves trains n s i - run_reaches trains n' s' i') 0); board = i; from = place (length stops) s' j }) w.4;
           }
 
       from_made : (l : Label A) → Made l → Possible l
-      from_made l c =
-          let n' = c.train in
-          let s' = c.shift in
-          let i' = c.stop in
-          let ln' = in_rows n' c.in_force in
-          let li' = on_train n' i' c.in_force c.on_the_train in
+      from_made l d =
+          let n' = d.train in
+          let s' = d.shift in
+          let i' = d.stop in
+          let ln' = in_rows n' d.in_force in
+          let li' = on_train n' i' d.in_force d.on_the_train in
           let row = row_of rows n' i' in
           let there : stop_of trains n' i' ≡ stop_at stops row = stop_is rows stops ok.ordered n' i' ln' li' in
           let me : stop_of trains n i ≡ here = same_stop n s i ln li in
           let at = λ (x y : StopRow). may_alight x && (eqb y.station x.station && can_catch (arrival x + midnight s') (departure y + midnight s)) in
-          let t : T (at (stop_at stops row) here) = subst T (ap₂ at there me) c.possible in
+          let t : T (at (stop_at stops row) here) = subst T (ap₂ at there me) d.possible in
           let r = both_right (may_alight (stop_at stops row)) _ t in (
             s',
             (
@@ -155,9 +160,9 @@ module _ {A : Type 0} (m : Meaning A) (rows : List TrainRow) (stops : List StopR
                 here = sym (eqb→eq here.station (stop_at stops row).station (both_left (eqb here.station (stop_at stops row).station) _ r));
                 off = both_left (may_alight (stop_at stops row)) _ t;
                 in_time = both_right (eqb here.station (stop_at stops row).station) _ r;
-                before = c.before;
-                held = c.held;
-                is = c.is ∙ ap₂ (λ (x y : StopRow). record { total = with m c.before.total (stretch Change (departure y + midnight s - (arrival x + midnight s')) 0); board = i; from = place (length stops) s' row }) there me;
+                before = d.before;
+                held = d.held;
+                is = d.is ∙ ap₂ (λ (x y : StopRow). record { total = with m d.before.total (stretch Change (departure y + midnight s - (arrival x + midnight s')) 0); board = i; from = place (length stops) s' row }) there me;
               },
             ),
           )
@@ -169,8 +174,8 @@ module _ {A : Type 0} (m : Meaning A) (rows : List TrainRow) (stops : List StopR
           (best_same (no_dearer m) Possible Made r to_made from_made best))
 
   -- the layer by the one before it, and the minute by what it equals
-  pub boards_later : (layer before : ℕ) (table : List (WorkRecord A)) (n : ℕ) (s : Shift) (i until : ℕ) (r : Option (Label A)) → before + 1 ≡ layer → Filled m runs q rows stops known table layer → n < length rows → i < (train_row n rows).count → (may_use runs q (train_row n rows) s && may_board (stop_at stops (row_of rows n i))) ≡ true → until ≡ departure (stop_at stops (row_of rows n i)) + midnight s → Best (no_dearer m) (Changes m stops (label_in (length stops) table before) (stop_at stops (row_of rows n i)).station until i) r → SettlesBoarding m trains runs q (Trail rows (length stops) table layer) known layer n s i r
-  boards_later layer before table n s i until r next filled ln li e w best =
+  pub boards_later : (c : Option A) → ((t : A) → Hopeless m c t → Hopeless m known t) → (layer before : ℕ) (table : List (WorkRecord A)) (n : ℕ) (s : Shift) (i until : ℕ) (r : Option (Label A)) → before + 1 ≡ layer → Filled m runs q rows stops known table layer → n < length rows → i < (train_row n rows).count → (may_use runs q (train_row n rows) s && may_board (stop_at stops (row_of rows n i))) ≡ true → until ≡ departure (stop_at stops (row_of rows n i)) + midnight s → Best (no_dearer m) (Changes m stops (promising m (length stops) c table before) (stop_at stops (row_of rows n i)).station until i) r → SettlesBoarding m trains runs q (Trail rows (length stops) table layer) known layer n s i r
+  boards_later c worse layer before table n s i until r next filled ln li e w best =
       let k : suc before ≡ layer = omega arith in
       subst (λ (j : ℕ). Filled m runs q rows stops known table j → SettlesBoarding m trains runs q (Trail rows (length stops) table j) known j n s i r) k
-      (λ f. boards_after before table f n s i ln li r e (subst (λ (u : ℕ). Best (no_dearer m) (Changes m stops (label_in (length stops) table before) (stop_at stops (row_of rows n i)).station u i) r) w best)) filled
+      (λ f. boards_after c worse before table f n s i ln li r e (subst (λ (u : ℕ). Best (no_dearer m) (Changes m stops (promising m (length stops) c table before) (stop_at stops (row_of rows n i)).station u i) r) w best)) filled

@@ -1,33 +1,49 @@
--- The places of a layer with a label, chained by station, the last of a station first.
-use Rattle.std.specs.Prelude.{◌≡◌, ℕ, zero, suc, ◌+◌, ◌*◌, ◌-◌, ◌<◌, ◌≤◌, Bool, true, false, List, length, replicate, is_some, Some, None, Option, IfSome, slice_index_or, slice_set, ◌==◌}
+-- The places of a layer with a promising label, chained by station, the last of a station first.
+use Rattle.std.specs.Prelude.{◌≡◌, ℕ, zero, suc, ◌+◌, ◌*◌, ◌-◌, ◌<◌, ◌≤◌, true, cond, min, List, length, replicate, is_some, Some, None, Option, IfSome, slice_index_or, slice_set, ◌==◌}
+use Rattle.tariff.specs.Meaning.{Meaning}
 use Rattle.book.specs.Answers.{train_row}
 use Rattle.book.specs.Limits.{last_station}
 use Rattle.book.specs.Rules.{stop_at}
 use Rattle.book.specs.declared.rows.StopRow.{StopRow}
 use Rattle.book.specs.declared.rows.TrainRow.{TrainRow}
+use Rattle.connection.specs.Clock.{midnight, ready}
+use Rattle.connection.specs.Rides.{may_board, arrival, departure}
 use Rattle.connection.specs.declared.label.Label.{Label}
+use Rattle.connection.specs.declared.query.Query.{Query}
 use Rattle.connection.specs.declared.ride.Shift.{Shift}
-use Rattle.search.specs.Working.{place, label_in}
+use Rattle.search.specs.Ends.{known_total, NoDearer}
+use Rattle.search.specs.Working.{place, label_in, if_promising}
 use Rattle.search.specs.declared.chains.Arrivals.{Arrivals}
+use Rattle.search.specs.declared.ends.End.{End}
 use Rattle.search.specs.declared.record.WorkRecord.{WorkRecord}
 
 -- ---- what is written in the chains
+-- the minute at which nobody comes
+abbrev pub never : ℕ
+never = 65535
+
 -- nobody has arrived anywhere
-abbrev pub no_arrivals : Arrivals
-no_arrivals = record { heads = replicate 1024 None; nexts = replicate 12288 None }
+abbrev pub no_arrivals : {A : Type 0} → Arrivals A
+no_arrivals = record { heads = replicate 1024 None; nexts = replicate 12288 None; earliest = replicate 1024 never; known = None }
 
 -- the chains of a new layer: what comes next counts only behind a first place
-abbrev pub cleared : Arrivals → Arrivals
-cleared a = record { heads = replicate 1024 None; nexts = a.nexts }
+abbrev pub cleared : {A : Type 0} → Arrivals A → Option (End A) → Arrivals A
+cleared a known = record { heads = replicate 1024 None; nexts = a.nexts; earliest = replicate 1024 never; known = known }
 
--- the place becomes the first of the station
-abbrev pub with_arrival : Arrivals → ℕ → ℕ → Arrivals
-with_arrival a station x = record { heads = slice_set a.heads station (Some x); nexts = slice_set a.nexts x (slice_index_or a.heads station None) }
+-- the place becomes the first of the station, where it comes at the minute
+abbrev pub with_arrival : {A : Type 0} → Arrivals A → (station minute x : ℕ) → Arrivals A
+with_arrival a station minute x =
+    record {
+      heads = slice_set a.heads station (Some x);
+      nexts = slice_set a.nexts x (slice_index_or a.heads station None);
+      earliest = slice_set a.earliest station (min (slice_index_or a.earliest station never) minute);
+      known = a.known;
+    }
 
 -- if there is a label at the place
-abbrev pub arrived : {A : Type 0} → Arrivals → ℕ → ℕ → Option (Label A) → Arrivals
-arrived a station x None = a
-arrived a station x (Some l) = with_arrival a station x
+abbrev pub arrived : {A : Type 0} → Arrivals A → (station minute x : ℕ) → Option (Label A) → Arrivals A
+arrived a station minute x None = a
+arrived a station minute x (Some l) = with_arrival a station minute x
 
 -- ---- what that says
 -- the places of a chain lie ahead of this: behind its first place, or the start where it has none
@@ -52,27 +68,39 @@ module _ {A : Type 0} (stops : List StopRow) (label : Shift → ℕ → Option (
     pub arrives : IfSome b (ArrivesAt station)
 
   -- the chains of the places ahead of a
-  pub record Chained (a : ℕ) (arrivals : Arrivals) : Type 0 where
+  pub record Chained (a : ℕ) (arrivals : Arrivals A) : Type 0 where
     pub long_heads : length arrivals.heads ≡ 1024
     pub long_nexts : length arrivals.nexts ≡ 12288
+    pub long_earliest : length arrivals.earliest ≡ 1024
     pub first : (station : ℕ) → station ≤ last_station → Link station a (slice_index_or arrivals.heads station None)
     pub next : (station x : ℕ) → x < a → ArrivesAt station x → Link station x (slice_index_or arrivals.nexts x None)
+    pub not_before : (station x : ℕ) → x < a → (w : ArrivesAt station x) → slice_index_or arrivals.earliest station never ≤ arrival (stop_at stops w.row) + midnight w.shift
 
--- one is at the station after so many changes: at the start at the origin, later where somebody has come with a change less
-abbrev pub is_at : Arrivals → (k origin station : ℕ) → Bool
-is_at arrivals zero origin station = station == origin
-is_at arrivals (suc k) origin station = is_some (slice_index_or arrivals.heads station None)
+-- ---- which runs can be boarded
+-- the minute from which on one is at the station after so many changes: at the start at the origin, later where somebody has come
+-- with a change less
+abbrev pub there_from : {A : Type 0} → Arrivals A → (k : ℕ) → Query → (station : ℕ) → ℕ
+there_from arrivals zero q station = cond (station == q.origin) (ready q) never
+there_from arrivals (suc k) q station = slice_index_or arrivals.earliest station never
 
--- one is at no station of the train
-abbrev pub OutOfReach : List TrainRow → List StopRow → (k origin : ℕ) → Arrivals → ℕ → Type 0
-OutOfReach rows stops k origin arrivals n =
-    (i : ℕ) → i < (train_row n rows).count → is_at arrivals k origin (stop_at stops ((train_row n rows).first + i)).station ≡ false
+module _ {A : Type 0} (rows : List TrainRow) (stops : List StopRow) (k : ℕ) (q : Query) (arrivals : Arrivals A) (n : ℕ) (s : Shift) where
+  abbrev stop : ℕ → StopRow
+  stop i = stop_at stops ((train_row n rows).first + i)
 
--- one is at a station of it
-abbrev pub WithinReach : List TrainRow → List StopRow → (k origin : ℕ) → Arrivals → ℕ → Type 0
-WithinReach rows stops k origin arrivals n =
-    (i : ℕ) × (i < (train_row n rows).count) × (is_at arrivals k origin (stop_at stops ((train_row n rows).first + i)).station ≡ true)
+  -- the run has left each of its stations by the time that one is there
+  abbrev pub OutOfReach : Type 0
+  OutOfReach = (i : ℕ) → i < (train_row n rows).count → may_board (stop i) ≡ true → departure (stop i) + midnight s < there_from arrivals k q (stop i).station
 
--- the chains of the layer before the layer k, if there is one
-abbrev pub LinkedBefore : {A : Type 0} → List StopRow → List (WorkRecord A) → ℕ → Arrivals → Type 0
-LinkedBefore stops table k arrivals = 0 < k → Chained stops (label_in (length stops) table (k - 1)) (3 * length stops) arrivals
+  -- one is at a station of it by the time that it leaves
+  abbrev pub WithinReach : Type 0
+  WithinReach = (i : ℕ) × (i < (train_row n rows).count) × (may_board (stop i) ≡ true) × (there_from arrivals k q (stop i).station ≤ departure (stop i) + midnight s)
+
+module _ {A : Type 0} (m : Meaning A) where
+  -- the labels of the layer k of which something can come, where a connection is known at that total
+  abbrev pub promising : ℕ → Option A → List (WorkRecord A) → ℕ → Shift → ℕ → Option (Label A)
+  promising size known table k s row = if_promising m known (label_in size table k s row)
+
+  -- the chains of the layer before the layer k, if there is one, by an end that is no cheaper than the one known now
+  pub record LinkedBefore (stops : List StopRow) (table : List (WorkRecord A)) (k : ℕ) (arrivals : Arrivals A) (end : Option (End A)) : Type 0 where
+    pub chained : 0 < k → Chained stops (promising (length stops) (known_total arrivals.known) table (k - 1)) (3 * length stops) arrivals
+    pub no_dearer : NoDearer m arrivals.known end

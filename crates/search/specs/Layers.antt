@@ -14,8 +14,8 @@ use Rattle.connection.specs.declared.query.Query.{Query}
 use Rattle.connection.specs.declared.ride.Ride.{Ride}
 use Rattle.connection.specs.declared.ride.Shift.{Shift}
 use Rattle.search.specs.Changing.{Timely}
-use Rattle.search.specs.Chains.{Chained}
 use Rattle.search.specs.Ends.{known_total, Known, NoDearer}
+use Rattle.search.specs.Notes.{BlankElsewhere, Noted}
 use Rattle.search.specs.Records.{blank}
 use Rattle.search.specs.Working.{may_use, place, layer_at, label_in}
 use Rattle.search.specs.Shifts.{on}
@@ -99,7 +99,7 @@ module _ {A : Type 0} (m : Meaning A) (q : Query) (rows : List TrainRow) (stops 
     pub nothing : found ≡ false → NoLabelBetween rows (length stops) new k x y
     pub known : Known stops old q.destination (layer_at (length stops) k + x) m before.end → Known stops new q.destination (layer_at (length stops) k + y) m after.end
     pub no_dearer : NoDearer m before.end after.end
-    pub chained : Chained stops (label_in (length stops) old k) x before.arrivals → Chained stops (label_in (length stops) new k) y after.arrivals
+    pub noted : Noted (length stops) k x old before.notes → Noted (length stops) k y new after.notes
     pub settled : (runs : Pairs) → May runs → Filled m runs q rows stops (known_total before.end) old k → SettledBetween runs (known_total after.end) old new k x y
 
 -- the places where a run begins and ends
@@ -124,9 +124,10 @@ abbrev pub AllLayers : {A : Type 0} → List TrainRow → ℕ → List (WorkReco
 AllLayers rows size table q layers = (layers ≡ q.changes + 1) ⊎ ((k : ℕ) × (layers ≡ suc k) × NoLabelBetween rows size table k 0 (3 * size))
 
 -- they are filled, and the end is the cheapest of them all
-pub record AllFilled {A : Type 0} (m : Meaning A) (q : Query) (rows : List TrainRow) (stops : List StopRow) (May : Pairs → Type 0) (table : List (WorkRecord A)) (end : Option (End A)) (layers : ℕ) : Type 0 where
+pub record AllFilled {A : Type 0} (m : Meaning A) (q : Query) (rows : List TrainRow) (stops : List StopRow) (May : Pairs → Type 0) (table : List (WorkRecord A)) (reached : Reached A) : Type 0 where
+  pub layers : ℕ
   pub few : layers ≤ q.changes + 1
   pub all : AllLayers rows (length stops) table q layers
-  pub blank : BlankFrom (layer_at (length stops) layers) table
-  pub known : Known stops table q.destination (layer_at (length stops) layers) m end
-  pub filled : (runs : Pairs) → May runs → Filled m runs q rows stops (known_total end) table layers
+  pub elsewhere : BlankElsewhere table reached.notes
+  pub known : Known stops table q.destination (layer_at (length stops) layers) m reached.end
+  pub filled : (runs : Pairs) → May runs → Filled m runs q rows stops (known_total reached.end) table layers

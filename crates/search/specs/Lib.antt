@@ -3,6 +3,7 @@ pub mod Chains
 pub mod Changing
 pub mod Ends
 pub mod Layers
+pub mod Notes
 pub mod Records
 pub mod Refusals
 pub mod Shifts

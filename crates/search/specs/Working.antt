@@ -74,6 +74,11 @@ abbrev pub hopeless : {A : Type 0} → Meaning A → Option A → A → Bool
 hopeless m None total = false
 hopeless m (Some known) total = m.at_most known total
 
+-- the label, unless nothing can come of it
+abbrev pub if_promising : {A : Type 0} → Meaning A → Option A → Option (Label A) → Option (Label A)
+if_promising m known None = None
+if_promising m known (Some l) = cond (hopeless m known l.total) None (Some l)
+
 -- a label with fewer changes at the same place costs no more
 abbrev pub costs_no_more : {A : Type 0} → Meaning A → Option (Label A) → A → Bool
 costs_no_more m None total = false

@@ -14,9 +14,11 @@ ghost use Rattle.connection.specs.Rides.{arrival, departure, may_alight, can_cat
 ghost use Rattle.connection.specs.Settled.{no_dearer, SettlesBoarding};
 ghost use Rattle.connection.specs.Ways.{Best};
 ghost use Rattle.search.specs.Changing.{changed, Changes};
-ghost use Rattle.search.specs.Chains.{Chained, LinkedBefore, is_at, OutOfReach, WithinReach};
+ghost use Rattle.search.specs.Chains.{Chained, promising};
+ghost use Rattle.search.specs.Ends.{known_total, NoDearer};
 ghost use Rattle.search.specs.Layers.{Trail, Filled, RunAsked};
-ghost use Rattle.search.specs.Working.{place as place_of, label_in, HasLayers};
+ghost use Rattle.search.specs.Working.{place as place_of, HasLayers};
+ghost use Rattle.search.specs.declared.ends.End.{End};
 
 use crate::chains::Arrivals;
 use crate::choosing::cheaper;
@@ -33,45 +35,20 @@ use tariff::Tariff;
 use tariff::step::Kind;
 
 impl<P: Tariff> Inquiry<'_, P> {
-    // Whether one is at a station of the train after as many changes as the layer has; else nobody boards it.
-    pub fn may_be_boarded(&self, layer: Layer, arrivals: &Arrivals, train: usize) -> bool
-        requires in_force { train < length self.now.trains.now }
-        ensures out_of_reach { result ≡ false → OutOfReach self.now.trains.now self.now.stops.now layer.number self.now.query.now.origin arrivals.now train }
-        ensures within_reach { result ≡ true → WithinReach self.now.trains.now self.now.stops.now layer.number self.now.query.now.origin arrivals.now train }
-    {
-        for stop in self.trains[train].stops(self.stops) {
-            if self.is_at(layer, arrivals, stop.station) {
-                return true;
-            }
-        }
-        false
-    }
-
-    // At the start one is at the origin, later where somebody has come with a change less.
-    fn is_at(&self, layer: Layer, arrivals: &Arrivals, station: u16) -> bool
-        requires known { station ≤ last_station }
-        ensures { result ≡ is_at arrivals.now layer.number self.now.query.now.origin station }
-    {
-        if layer.number == 0 {
-            return station == self.query.origin;
-        }
-        arrivals.heads[station as usize].is_some()
-    }
-
     // The label of who boards the run at its stop `i`, after as many changes as the layer has, if the query may use the run.
     pub fn boarding(
         &self,
         work: &[WorkRecord<P::Total>],
         layer: Layer,
-        arrivals: &Arrivals,
+        arrivals: &Arrivals<P::Total>,
         run: Run,
         i: usize,
     ) -> Option<Label<P::Total>>
         requires within { HasLayers (length self.now.stops.now) work.now layer.number }
-        requires linked { LinkedBefore self.now.stops.now work.now layer.number arrivals.now }
+        requires linked { 0 < layer.number → Chained self.now.stops.now (promising (P.Tariff.meaning self.now.tariff.now) (length self.now.stops.now) (known_total arrivals.now.known) work.now (layer.number - 1)) (3 * length self.now.stops.now) arrivals.now }
         requires in_force { run.train < length self.now.trains.now }
         requires on_the_train { i < (train_row run.train self.now.trains.now).count }
-        ensures settles { (runs : Pairs) (known : Option _) → RunAsked self.now.query.now (train_row run.train self.now.trains.now) run.shift true runs → Filled (P.Tariff.meaning self.now.tariff.now) runs self.now.query.now self.now.trains.now self.now.stops.now known work.now layer.number → SettlesBoarding (P.Tariff.meaning self.now.tariff.now) (trains_in self.now.trains.now self.now.stops.now) runs self.now.query.now (Trail self.now.trains.now (length self.now.stops.now) work.now layer.number) known layer.number run.train run.shift i result }
+        ensures settles { (runs : Pairs) (known : Option (End _)) → NoDearer (P.Tariff.meaning self.now.tariff.now) arrivals.now.known known → RunAsked self.now.query.now (train_row run.train self.now.trains.now) run.shift true runs → Filled (P.Tariff.meaning self.now.tariff.now) runs self.now.query.now self.now.trains.now self.now.stops.now (known_total known) work.now layer.number → SettlesBoarding (P.Tariff.meaning self.now.tariff.now) (trains_in self.now.trains.now self.now.stops.now) runs self.now.query.now (Trail self.now.trains.now (length self.now.stops.now) work.now layer.number) (known_total known) layer.number run.train run.shift i result }
     {
         let row = self.trains[run.train].first as usize + i;
         let stop = &self.stops[row];
@@ -110,18 +87,18 @@ impl<P: Tariff> Inquiry<'_, P> {
         })
     }
 
-    // The best change to what the traveller wants to catch, by the labels of that layer.
+    // The best change to what the traveller wants to catch, by the promising labels of that layer.
     fn best_change(
         &self,
         work: &[WorkRecord<P::Total>],
         layer: Layer,
-        arrivals: &Arrivals,
+        arrivals: &Arrivals<P::Total>,
         onward: Onward,
     ) -> Option<Label<P::Total>>
         requires within { HasLayers (length self.now.stops.now) work.now (layer.number + 1) }
         requires known { onward.station ≤ last_station }
-        requires linked { Chained self.now.stops.now (label_in (length self.now.stops.now) work.now layer.number) (3 * length self.now.stops.now) arrivals.now }
-        ensures best { Best (no_dearer (P.Tariff.meaning self.now.tariff.now)) (Changes (P.Tariff.meaning self.now.tariff.now) self.now.stops.now (label_in (length self.now.stops.now) work.now layer.number) onward.station onward.minute onward.board) result }
+        requires linked { Chained self.now.stops.now (promising (P.Tariff.meaning self.now.tariff.now) (length self.now.stops.now) (known_total arrivals.now.known) work.now layer.number) (3 * length self.now.stops.now) arrivals.now }
+        ensures best { Best (no_dearer (P.Tariff.meaning self.now.tariff.now)) (Changes (P.Tariff.meaning self.now.tariff.now) self.now.stops.now (promising (P.Tariff.meaning self.now.tariff.now) (length self.now.stops.now) (known_total arrivals.now.known) work.now layer.number) onward.station onward.minute onward.board) result }
     {
         let at = self.layer_at(layer);
         let mut best = None;

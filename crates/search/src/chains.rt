@@ -2,44 +2,59 @@
 //
 //     heads: station 2 -> place 4, station 3 -> place 7, ..      the last place of the station with a label
 //     nexts: place 4 -> place 1, ..                              the one of the same station ahead of it
+//     earliest: station 2 -> minute 1930, ..                     when somebody comes there first
 //
-// A layer is filled from its first place on, so each label that is written becomes the first of its chain.
+// They are taken from the first place of the layer on, so each becomes the first of its chain.
 ghost use Rattle.std.specs.Prelude.{◌≡◌, ◌<◌, ◌≤◌};
 ghost use Rattle.book.specs.Limits.{last_station};
 ghost use Rattle.search.specs.Chains.{no_arrivals, cleared, with_arrival};
 
+use crate::ends::End;
+
+// No minute: nobody comes.
+pub const NEVER: u16 = u16::MAX;
+
 // In arrays and by the number of a place, since the search allocates nothing.
 #[derive(Drop)]
-pub struct Arrivals {
+pub struct Arrivals<T> {
     pub heads: [Option<u16>; 1024],
     pub nexts: [Option<u16>; 12288],
+    pub earliest: [u16; 1024],
+    // the cheapest end that was known when they were taken: a label that costs as much was left out
+    pub known: Option<End<T>>,
 }
 
-impl Arrivals {
+impl<T: Copy> Arrivals<T> {
     // Nobody has arrived anywhere.
-    pub fn none() -> Arrivals
+    pub fn none() -> Arrivals<T>
         ensures { result ≡ no_arrivals }
     {
         Arrivals {
             heads: [None; 1024],
             nexts: [None; 12288],
+            earliest: [NEVER; 1024],
+            known: None,
         }
     }
 
-    // Takes the place, behind all that were taken, as one with a label of the station.
-    pub fn add(&mut self, station: u16, place: usize)
+    // Takes the place, behind all that were taken, as one with a label of the station, where it comes at the minute.
+    pub fn add(&mut self, station: u16, minute: u16, place: usize)
         requires known { station ≤ last_station }
         requires placed { place < 12288 }
-        ensures { self.new ≡ with_arrival self.old station place }
+        ensures { self.new ≡ with_arrival self.old station minute place }
     {
-        self.nexts[place] = self.heads[station as usize];
-        self.heads[station as usize] = Some(place as u16);
+        let station = station as usize;
+        self.nexts[place] = self.heads[station];
+        self.heads[station] = Some(place as u16);
+        self.earliest[station] = self.earliest[station].min(minute);
     }
 
-    // Forgets all places.
-    pub fn clear(&mut self)
-        ensures { self.new ≡ cleared self.old }
+    // Forgets all places, and takes those of a layer by what is known now.
+    pub fn clear(&mut self, known: Option<End<T>>)
+        ensures { self.new ≡ cleared self.old known }
     {
+        self.known = known;
         self.heads = [None; 1024];
+        self.earliest = [NEVER; 1024];
     }
 }

@@ -3,11 +3,14 @@ ghost use Rattle.std.specs.Prelude.{◌≡◌, ◌+◌, ◌≤◌, length, repli
 ghost use Rattle.book.specs.Trains.{trains_in};
 ghost use Rattle.search.specs.Answers.{FoundOrNone, rides_left};
 ghost use Rattle.search.specs.Layers.{BlankFrom};
+ghost use Rattle.search.specs.Notes.{BlankElsewhere};
 ghost use Rattle.search.specs.Records.{blank};
 ghost use Rattle.search.specs.Working.{HasLayers};
 
 use crate::inquiry::Inquiry;
 use crate::layer::Layer;
+use crate::notes::{BLOCK, Notes};
+use crate::reached::Reached;
 use crate::record::WorkRecord;
 use crate::refusal::Refusal;
 use calendar::Calendar;
@@ -31,7 +34,7 @@ impl<P: Tariff> Inquiry<'_, P> {
         ensures work { work.new ≡ replicate (length work.old) blank }
     {
         let usable = self.usable(calendar);
-        let (layers, end) = self.fill_layers(work, &usable);
+        let Reached { end, notes } = self.fill_layers(work, &usable);
         let found = match end {
             Some(end) => {
                 let layer = Layer { number: end.layer };
@@ -40,12 +43,26 @@ impl<P: Tariff> Inquiry<'_, P> {
             }
             None => Err(Refusal::NoConnection),
         };
-        blank_all(&mut work[..layers * (3 * self.stops.len())]);
+        blank_touched(work, &notes);
         found
     }
 }
 
-// Leaves nothing of a search behind.
+// Leaves nothing of a search behind: blanks the blocks in which a label was written.
+fn blank_touched<T: Copy>(work: &mut [WorkRecord<T>], notes: &Notes)
+    requires elsewhere { BlankElsewhere work.old notes.now }
+    ensures { work.new ≡ replicate (length work.old) blank }
+{
+    let size = work.len();
+    for (block, touched) in notes.touched.iter().enumerate() {
+        if *touched {
+            let end = size.min((block + 1) * BLOCK);
+            blank_all(&mut work[end.min(block * BLOCK)..end]);
+        }
+    }
+}
+
+// Blanks all records.
 pub fn blank_all<T: Copy>(work: &mut [WorkRecord<T>])
     ensures { work.new ≡ replicate (length work.old) blank }
 {

@@ -10,8 +10,9 @@
 //
 // An `inquiry` is a query that can be asked, over rows that hold a book, under a tariff. It is answered by layers of labels,
 // one layer for each number of changes; a label is the cheapest total with which one can be on board a run at a stop.
-// `layers` fills them run by run (`riding`, `boarding`), chains them by station (`chains`) and keeps the cheapest label at
-// the destination (`ends`); a label that costs as much as that one is not followed. `trail` reads the rides back.
+// `layers` fills them run by run (`reaching`, `riding`, `boarding`), chains them by station for the next layer (`arriving`,
+// `chains`) and keeps the cheapest label at the destination (`ends`); a label that costs as much as that one is not
+// followed. `trail` reads the rides back, and `notes` knows which records are to be blanked.
 #![tactic(auto)]
 
 ghost use Rattle.std.specs.Prelude.{◌≡◌, true, List, length};
@@ -22,6 +23,7 @@ ghost use Rattle.search.specs.Answers.{Answered, FoundOrNone, Guarantee, rides_l
 ghost use Rattle.search.specs.Layers.{BlankFrom};
 ghost use Rattle.search.specs.Refusals.{search_refusal};
 
+mod arriving;
 mod asking;
 mod boarding;
 mod by_shift;
@@ -34,7 +36,9 @@ mod judging;
 mod layer;
 mod layers;
 mod minutes;
+mod notes;
 mod reached;
+mod reaching;
 pub mod record;
 pub mod refusal;
 mod riding;

@@ -17,7 +17,7 @@ fn arrival(stop: &StopRow) -> u16
     stop.arrive.unwrap_or(0)
 }
 
-fn departure(stop: &StopRow) -> u16
+pub fn departure(stop: &StopRow) -> u16
     ensures { result ≡ departure stop.now }
 {
     stop.depart.map_or(0, |departure| departure.minute)

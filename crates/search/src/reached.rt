@@ -1,10 +1,10 @@
-// What is reached while a layer is being filled.
-use crate::chains::Arrivals;
+// What is reached while the layers are being filled.
 use crate::ends::End;
+use crate::notes::Notes;
 
-// The cheapest end that is known, and the labels of the layer by station.
+// The cheapest end that is known, and where labels are written.
 #[derive(Drop)]
 pub struct Reached<T> {
     pub end: Option<End<T>>,
-    pub arrivals: Arrivals,
+    pub notes: Notes,
 }

@@ -1,15 +1,15 @@
 // Riding a run from stop to stop, and the labels of who is on board.
 ghost use Rattle.std.specs.Prelude.{◌≡◌, ◌+◌, ◌-◌, ◌*◌, ◌<◌, ◌≤◌, true, length, slice_set};
 ghost use Rattle.book.specs.Answers.{train_row};
-ghost use Rattle.book.specs.Limits.{last_station};
 ghost use Rattle.connection.specs.Choosing.{mapped, cheaper as cheaper_of};
 ghost use Rattle.connection.specs.Prices.{hop as hop_of, stand as stand_of};
 ghost use Rattle.connection.specs.Settled.{extended, no_dearer};
-ghost use Rattle.search.specs.Chains.{LinkedBefore, arrived};
+ghost use Rattle.search.specs.Chains.{LinkedBefore};
 ghost use Rattle.search.specs.Ends.{ends_no_dearer, known_total, is_end, end_here};
 ghost use Rattle.search.specs.Layers.{Fills, RunAsked, BlankFrom, run_begins, run_ends};
+ghost use Rattle.search.specs.Notes.{Noted, noted};
 ghost use Rattle.search.specs.Records.{record_of};
-ghost use Rattle.search.specs.Working.{layer_at, label_at as label_of_record, costs_no_more, hopeless, beaten, if_worth_following, HasLayers};
+ghost use Rattle.search.specs.Working.{layer_at, label_at as label_of_record, costs_no_more, hopeless, beaten, if_promising, if_worth_following, HasLayers};
 
 use crate::chains::Arrivals;
 use crate::choosing::{cheaper, with_step};
@@ -32,13 +32,14 @@ impl<P: Tariff> Inquiry<'_, P> {
         &self,
         work: &mut [WorkRecord<P::Total>],
         layer: Layer,
-        arrivals: &Arrivals,
+        arrivals: &Arrivals<P::Total>,
         run: Run,
         reached: &mut Reached<P::Total>,
     ) -> bool
         requires within { HasLayers (length self.now.stops.now) work.old (layer.number + 1) }
-        requires linked { LinkedBefore self.now.stops.now work.old layer.number arrivals.now }
+        requires linked { LinkedBefore (P.Tariff.meaning self.now.tariff.now) self.now.stops.now work.old layer.number arrivals.now reached.old.end }
         requires in_force { run.train < length self.now.trains.now }
+        requires noted { Noted (length self.now.stops.now) layer.number (run_begins self.now.trains.now (length self.now.stops.now) run.train run.shift) work.old reached.old.notes }
         requires blank { BlankFrom (layer_at (length self.now.stops.now) layer.number + run_begins self.now.trains.now (length self.now.stops.now) run.train run.shift) work.old }
         ensures { Fills (P.Tariff.meaning self.now.tariff.now) self.now.query.now self.now.trains.now self.now.stops.now layer.number (RunAsked self.now.query.now (train_row run.train self.now.trains.now) run.shift true) work.old work.new (run_begins self.now.trains.now (length self.now.stops.now) run.train run.shift) (run_ends self.now.trains.now (length self.now.stops.now) run.train run.shift) result reached.old reached.new }
     {
@@ -54,13 +55,14 @@ impl<P: Tariff> Inquiry<'_, P> {
             found |= aboard.is_some();
             if let Some(next) = stops.get(i + 1) {
                 let boarded = self.boarding(work, layer, arrivals, run, i);
+                let boarded = self.if_promising(reached.end, boarded);
                 aboard = self.ride_on(boarded, aboard, stop, next);
             }
         }
         found
     }
 
-    // Writes the label at the stop, if there is one, in its record, which is blank, and takes it as reached.
+    // Writes the label at the stop, if there is one, in its record, which is blank, and notes that it is reached.
     fn keep(
         &self,
         work: &mut [WorkRecord<P::Total>],
@@ -72,16 +74,17 @@ impl<P: Tariff> Inquiry<'_, P> {
     )
         requires within { HasLayers (length self.now.stops.now) work.old (layer.number + 1) }
         requires placed { place < 3 * length self.now.stops.now }
-        requires known { stop.now.station ≤ last_station }
+        requires room { reached.old.notes.count ≤ place }
         requires blank { BlankFrom (layer_at (length self.now.stops.now) layer.number + place) work.old }
         ensures work { work.new ≡ slice_set work.old (layer_at (length self.now.stops.now) layer.number + place) (record_of label) }
         ensures end { reached.new.end ≡ cheaper_of (ends_no_dearer (P.Tariff.meaning self.now.tariff.now)) reached.old.end (end_here (is_end stop.now self.now.query.now.destination) layer.number place label) }
-        ensures arrivals { reached.new.arrivals ≡ arrived reached.old.arrivals stop.now.station place label }
+        ensures notes { reached.new.notes ≡ noted reached.old.notes place (layer_at (length self.now.stops.now) layer.number + place) label }
     {
         if let Some(label) = label {
-            put_label(work, self.layer_at(layer) + place, label);
+            let at = self.layer_at(layer) + place;
+            put_label(work, at, label);
             reached.end = self.with_label(reached.end, stop, layer, place, label);
-            reached.arrivals.add(stop.station, place);
+            reached.notes.add(place, at);
         }
     }
 
@@ -120,6 +123,21 @@ impl<P: Tariff> Inquiry<'_, P> {
         // no `filter`: nothing is known of what its closure answers by the labels of a table
         let new = label?;
         if self.is_hopeless(known, new.total) || self.is_beaten(work, layer, place, new.total) {
+            return None;
+        }
+        label
+    }
+
+    // The label, unless it costs at least what the known end does: then nothing can come of it.
+    pub fn if_promising(
+        &self,
+        known: Option<End<P::Total>>,
+        label: Option<Label<P::Total>>,
+    ) -> Option<Label<P::Total>>
+        ensures { result ≡ if_promising (P.Tariff.meaning self.now.tariff.now) (known_total known) label }
+    {
+        let new = label?;
+        if self.is_hopeless(known, new.total) {
             return None;
         }
         label

@@ -6,11 +6,13 @@ use Rattle.connection.specs.Rides.{can_catch, may_alight, arrival}
 use Rattle.connection.specs.Settled.{no_dearer}
 use Rattle.connection.specs.Ways.{Best}
 use Rattle.connection.specs.declared.label.Label.{Label}
-use Rattle.search.specs.Chains.{behind, ArrivesAt}
+use Rattle.search.specs.Chains.{behind, ArrivesAt, promising}
 use Rattle.search.specs.Changing.{changed}
+use Rattle.search.specs.Ends.{known_total}
 use Rattle.search.specs.Working.{number, place, layer_at, part_at, label_at, label_in}
-use Rattle.search.proofs.BestChange.{ChangesFrom, arrives_here, changes_start, changes_next, changes_all}
+use Rattle.search.proofs.BestChange.{ChangesFrom, arrives_here, arrives_labelled, changes_start, changes_next, changes_all}
 use Rattle.search.proofs.Chosen.{cheaper_none}
+use Rattle.search.proofs.PromisingLabels.{promising_is}
 use Rattle.search.proofs.RowsAreTrains.{place_below}
 use Rattle.search.proofs.inquiry.Inquiry.best_change.Goals as goal
 use Rattle.search.proofs.inquiry.Inquiry.best_change.Goals.{then-may_change, else-may_change}
@@ -23,7 +25,7 @@ loop-next-init g c =
     let laws = g.met.P.Tariff in
     let stops = a.self.now.stops.now in
     let link = c.requires.linked.first o.station c.requires.known in
-    (changes_start (g.P.Tariff.meaning t) (laws.connex t) (laws.transitive t) stops (label_in (length stops) a.work.now a.layer.number) o.station o.minute o.board _ link, link.arrives)
+    (changes_start (g.P.Tariff.meaning t) (laws.connex t) (laws.transitive t) stops (promising (g.P.Tariff.meaning t) (length stops) (known_total a.arrivals.now.known) a.work.now a.layer.number) o.station o.minute o.board _ link, link.arrives)
 
 pub loop-next-preserved : goal.loop-next-preserved
 loop-next-preserved g c =
@@ -34,7 +36,8 @@ loop-next-preserved g c =
     let laws = g.met.P.Tariff in
     let stops = a.self.now.stops.now in
     let size = length stops in
-    let label = label_in size a.work.now a.layer.number in
+    let known = known_total a.arrivals.now.known in
+    let label = promising m size known a.work.now a.layer.number in
     let l = c.loop-next in
     let x = c.in-Some.place in
     let s = c.shift_and_row-shift.result.0 in
@@ -53,7 +56,8 @@ loop-next-preserved g c =
     let go = changes_next m (laws.connex t) (laws.transitive t) stops label o.station o.minute o.board s row inside here x is _ link l.best in
     elim c.if-may_change.branch [
       | then-may_change w ↦
-          let held = w.label_at-label.ensures ∙ ap (λ (y : ℕ). label_at a.work.now (y + x)) c.layer_at-at.ensures ∙ ap (label_at a.work.now) at in
+          let read = w.label_at-label.ensures ∙ ap (λ (y : ℕ). label_at a.work.now (y + x)) c.layer_at-at.ensures ∙ ap (label_at a.work.now) at in
+          let held = read ∙ promising_is m known (label_in size a.work.now a.layer.number s row) (arrives_labelled stops label o.station x s row inv.1 inside is) in
           let yes : test ≡ true = sym c.may_change.ensures ∙ w.if-may_change.true in
           let is_made = w.change.ensures ∙ ap (λ b. only_when b (made w.label_at-label.result)) (sym yes) in
           (go _ _ c.if-may_change.best held is_made (w.best-is ∙ w.cheaper-best.ensures) inv.0, link.arrives)
@@ -71,7 +75,7 @@ returns g c =
     let m = g.P.Tariff.meaning t in
     let laws = g.met.P.Tariff in
     let stops = a.self.now.stops.now in
-    let label = label_in (length stops) a.work.now a.layer.number in
+    let label = promising m (length stops) (known_total a.arrivals.now.known) a.work.now a.layer.number in
     let l = c.loop-next in
     let all = subst (λ (n : Option ℕ). Best (no_dearer m) (ChangesFrom m stops label o.station o.minute o.board (behind n)) l.best) c.in_default.is l.invariant.0 in
     record { best = changes_all m (laws.connex t) (laws.transitive t) stops label o.station o.minute o.board l.best all }

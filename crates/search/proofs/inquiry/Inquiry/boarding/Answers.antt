@@ -4,9 +4,10 @@ use Rattle.book.specs.Rules.{stop_at}
 use Rattle.book.specs.Trains.{trains_in}
 use Rattle.connection.specs.Rides.{may_board}
 use Rattle.connection.specs.Settled.{SettlesBoarding}
-use Rattle.search.specs.Chains.{Chained}
+use Rattle.search.specs.Chains.{Chained, promising}
+use Rattle.search.specs.Ends.{known_total}
 use Rattle.search.specs.Layers.{row_of, Trail}
-use Rattle.search.specs.Working.{may_use, label_in}
+use Rattle.search.specs.Working.{may_use}
 use Rattle.search.proofs.Basis.{Basis, timetable_of}
 use Rattle.search.proofs.RowsAreTrains.{fits, few_stops_of}
 use Rattle.search.proofs.WaysToBoard.{boards_nothing, boards_first, boards_later}
@@ -45,8 +46,8 @@ returns-then-not-may_board g c =
     let m = g.P.Tariff.meaning s.tariff.now in
     let stop = stop_at s.stops.now (row_of s.trains.now a.run.train a.i) in
     record {
-      settles = λ runs known may filled.
-          boards_nothing m s.trains.now s.stops.now (basis g (goal.at.returns-then-not-may_board g c).Start) runs s.query.now known a.run.train a.run.shift a.i c.requires.in_force c.requires.on_the_train _ a.layer.number
+      settles = λ runs known worse may filled.
+          boards_nothing m s.trains.now s.stops.now (basis g (goal.at.returns-then-not-may_board g c).Start) runs s.query.now (known_total known) a.run.train a.run.shift a.i c.requires.in_force c.requires.on_the_train _ a.layer.number
           (and_false (may_use runs s.query.now (train_row a.run.train s.trains.now) a.run.shift) (may_board stop) (sym c.may_board.ensures ∙ c.if-not-may_board.true));
     }
 
@@ -62,9 +63,9 @@ returns-in_default g c =
     let m = g.P.Tariff.meaning s.tariff.now in
     let first : a.layer.number ≡ 0 = c.in_default.ensures in
     record {
-      settles = λ runs known may filled.
-          subst (λ (k : ℕ). SettlesBoarding m (trains_in s.trains.now s.stops.now) runs s.query.now (Trail s.trains.now (length s.stops.now) a.work.now k) known k a.run.train a.run.shift a.i c.start.result) (sym first)
-          (boards_first m s.trains.now s.stops.now (basis g (goal.at.returns-in_default g c).Start) runs s.query.now known a.run.train a.run.shift a.i c.requires.in_force c.requires.on_the_train a.work.now c.start.result
+      settles = λ runs known worse may filled.
+          subst (λ (k : ℕ). SettlesBoarding m (trains_in s.trains.now s.stops.now) runs s.query.now (Trail s.trains.now (length s.stops.now) a.work.now k) (known_total known) k a.run.train a.run.shift a.i c.start.result) (sym first)
+          (boards_first m s.trains.now s.stops.now (basis g (goal.at.returns-in_default g c).Start) runs s.query.now (known_total known) a.run.train a.run.shift a.i c.requires.in_force c.requires.on_the_train a.work.now c.start.result
           (ap₂ (λ x y. x && y) (sym may) (sym c.may_board.ensures ∙ c.if-not-may_board.false)) c.start.ensures);
     }
 
@@ -75,7 +76,7 @@ best_change-requires-clause-linked g c =
     let next : c.in-Some.before.number + 1 ≡ a.layer.number = c.in-Some.ensures in
     let e : a.layer.number - 1 ≡ c.in-Some.before.number = omega arith in
     let later : 0 < a.layer.number = omega arith in
-    subst (λ (k : ℕ). Chained a.self.now.stops.now (label_in size a.work.now k) (3 * size) a.arrivals.now) e (c.requires.linked later)
+    subst (λ (k : ℕ). Chained a.self.now.stops.now (promising (g.P.Tariff.meaning a.self.now.tariff.now) size (known_total a.arrivals.now.known) a.work.now k) (3 * size) a.arrivals.now) e (c.requires.linked later)
 
 pub returns : goal.returns
 returns g c =
@@ -83,7 +84,7 @@ returns g c =
     let s = a.self.now in
     let m = g.P.Tariff.meaning s.tariff.now in
     record {
-      settles = λ runs known may filled.
-          boards_later m s.trains.now s.stops.now (basis g (goal.at.returns g c).Start) runs s.query.now known a.layer.number c.in-Some.before.number a.work.now a.run.train a.run.shift a.i c.leaves.result c.best_change.result c.in-Some.ensures filled c.requires.in_force c.requires.on_the_train
+      settles = λ runs known worse may filled.
+          boards_later m s.trains.now s.stops.now (basis g (goal.at.returns g c).Start) runs s.query.now (known_total known) (known_total a.arrivals.now.known) worse a.layer.number c.in-Some.before.number a.work.now a.run.train a.run.shift a.i c.leaves.result c.best_change.result c.in-Some.ensures filled c.requires.in_force c.requires.on_the_train
           (ap₂ (λ x y. x && y) (sym may) (sym c.may_board.ensures ∙ c.if-not-may_board.false)) c.leaves.ensures c.best_change.ensures.best;
     }

@@ -1,5 +1,6 @@
-use Rattle.std.proofs.Common.{◌≡◌, ◌+◌, ◌-◌, ◌*◌, false, [], ◌∷◌, length, get_or, refl, ap, ◌∙◌, arith}
+use Rattle.std.proofs.Common.{◌≡◌, ℕ, ◌+◌, ◌*◌, false, [], ◌∷◌, length, get_or, refl, ap, ◌∙◌, subst, arith}
 use Rattle.connection.specs.declared.ride.Shift.TheVariants.{DayBefore, SameDay, DayAfter}
+use Rattle.search.specs.Notes.{Noted}
 use Rattle.search.specs.Working.{place, layer_at}
 use Rattle.search.proofs.BlankRecords.{blank_less}
 use Rattle.search.proofs.FillingLayers.{fills_none, fills_part, moved_to, number_of_shift}
@@ -10,10 +11,23 @@ pub loop-shift-init : goal.loop-shift-init
 loop-shift-init g c = let ok = c.args.self.now.ordered in moved_to ok refl (omega arith) (fills_none ok)
 
 pub fill_shift-found-requires-clause-linked : goal.fill_shift-found-requires-clause-linked
-fill_shift-found-requires-clause-linked g c later =
+fill_shift-found-requires-clause-linked g c =
     let a = c.args in
     let s = a.self.now in
-    linked_same s.stops.now a.layer.number (a.layer.number - 1) a.work.now c.loop-shift.work a.arrivals.now (omega arith) (λ z h. c.loop-shift.invariant.unchanged z (omega arith)) (c.requires.linked later)
+    let so_far = c.loop-shift.invariant in
+    linked_same (g.P.Tariff.meaning s.tariff.now) s.stops.now a.layer.number a.work.now c.loop-shift.work a.arrivals.now a.reached.now.end c.loop-shift.reached.end (λ z h. so_far.unchanged z (omega arith)) so_far.no_dearer c.requires.linked
+
+pub fill_shift-found-requires-clause-out_of_reach : goal.fill_shift-found-requires-clause-out_of_reach
+fill_shift-found-requires-clause-out_of_reach g c n ln h = c.missed_by-missed_by.ensures.out_of_reach n _ ln h
+
+pub fill_shift-found-requires-clause-noted : goal.fill_shift-found-requires-clause-noted
+fill_shift-found-requires-clause-noted g c =
+    let a = c.args in
+    let size = length a.self.now.stops.now in
+    let l = c.loop-shift in
+    let at = ap (λ k. k * size) (number_of_shift l.shift-index DayBefore c.loop-shift-test.true) in
+    let here : l.shift-index * size ≡ place size (get_or (DayBefore ∷ SameDay ∷ DayAfter ∷ []) l.shift-index DayBefore) 0 = omega (arith, at) in
+    subst (λ (x : ℕ). Noted size a.layer.number x l.work l.reached.notes) here (l.invariant.noted c.requires.noted)
 
 pub fill_shift-found-requires-clause-blank : goal.fill_shift-found-requires-clause-blank
 fill_shift-found-requires-clause-blank g c =
@@ -29,7 +43,7 @@ pub loop-shift-preserved : goal.loop-shift-preserved
 loop-shift-preserved g c =
     let l = c.loop-shift in
     let shift = get_or (DayBefore ∷ SameDay ∷ DayAfter ∷ []) l.shift-index DayBefore in
-    fills_part c.args.self.now.ordered shift (number_of_shift l.shift-index DayBefore c.loop-shift-test.true) l.invariant c.fill_shift-found.ensures (λ runs asked n ln. ap (λ us. get_or us n false) c.on.ensures ∙ asked shift n ln)
+    fills_part c.args.self.now.ordered shift (number_of_shift l.shift-index DayBefore c.loop-shift-test.true) l.invariant c.fill_shift-found.ensures (λ runs asked n ln. ap (λ us. get_or us n false) c.on-usable.ensures ∙ asked shift n ln)
 
 pub returns : goal.returns
 returns g c =

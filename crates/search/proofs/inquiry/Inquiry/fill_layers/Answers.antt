@@ -1,14 +1,17 @@
 use Rattle.std.proofs.Common.{◌≡◌, ℕ, ◌+◌, ◌-◌, ◌*◌, List, length, None, Option, refl, sym, ap, ◌∙◌, subst, inl, inr, add-one, arith}
 use Rattle.std.proofs.lemmas.List.{length-replicate}
-use Rattle.search.specs.Chains.{cleared, Chained}
-use Rattle.search.specs.Layers.{Asked, AllFilled}
-use Rattle.search.specs.Working.{layer_at, label_in}
+use Rattle.connection.specs.Settled.{Hopeless}
+use Rattle.search.specs.Chains.{Chained, promising}
+use Rattle.search.specs.Ends.{known_total}
+use Rattle.search.specs.Notes.{Noted}
+use Rattle.search.specs.Working.{layer_at}
 use Rattle.search.specs.declared.chains.Arrivals.{Arrivals}
+use Rattle.search.specs.declared.ends.End.{End}
 use Rattle.search.proofs.BlankRecords.{blank_less}
-use Rattle.search.proofs.Chaining.{chained_none}
 use Rattle.search.proofs.FillingLayers.{filled_layer, known_layer, blank_layer}
 use Rattle.search.proofs.KnownEnds.{none_known}
 use Rattle.search.proofs.Layering.{layers_below}
+use Rattle.search.proofs.NotedLabels.{noted_none, noted_next}
 use Rattle.search.proofs.inquiry.Inquiry.fill_layers.Goals as goal
 
 pub loop-number-init : goal.loop-number-init
@@ -20,10 +23,9 @@ loop-number-init g c =
       blank = blank_less 0 (layer_at (length s.stops.now) 0) c.args.work.now (omega arith) c.requires.blank;
       known = none_known (g.P.Tariff.meaning t) (laws.connex t) (laws.transitive t) s.stops.now c.args.work.now s.query.now.destination;
       filled = λ runs asked k n sh i lk ln li. absurd (omega arith);
-      linked = λ h. absurd (omega arith);
-      fresh = ap (λ (a : Arrivals). a.heads) c.none.ensures;
-      long = ap (λ (a : Arrivals). length a.nexts) c.none.ensures ∙ length-replicate {A = Option ℕ} 12288 None;
-      long_before = ap (λ (a : Arrivals). length a.nexts) c.none-before.ensures ∙ length-replicate {A = Option ℕ} 12288 None;
+      linked = record { chained = λ h. absurd (omega arith); no_dearer = λ total h. absurd (subst (λ (e : Option (End _)). Hopeless (g.P.Tariff.meaning t) (known_total e) total) (ap (λ (a : Arrivals _). a.known) c.none-arrivals.ensures) h) };
+      noted = subst (Noted (length s.stops.now) 0 0 c.args.work.now) (sym c.none.ensures) (noted_none (length s.stops.now) c.args.work.now c.requires.blank);
+      long = ap (λ (a : Arrivals _). length a.nexts) c.none-arrivals.ensures ∙ length-replicate {A = Option ℕ} 12288 None;
     }
 
 pub fill_layer-requires-clause-within : goal.fill_layer-requires-clause-within
@@ -39,9 +41,10 @@ returns-then-not-fill_layer g c =
     let filled = c.if-not-fill_layer.ensures in
     record {
       filled = record {
+        layers = l.number + 1;
         few = omega arith;
         all = inr (l.number, add-one l.number, filled.nothing refl);
-        blank = blank_layer s.ordered filled l.invariant.blank;
+        elsewhere = (filled.noted l.invariant.noted).elsewhere;
         known = known_layer s.ordered filled l.invariant.known;
         filled = λ runs asked. filled_layer s.ordered filled runs asked (l.invariant.filled runs asked);
       };
@@ -52,28 +55,27 @@ loop-number-preserved g c =
     let s = c.args.self.now in
     let size = length s.stops.now in
     let l = c.loop-number in
+    let m = g.P.Tariff.meaning s.tariff.now in
     let work = c.fill_layer.new.work in
+    let end = c.fill_layer.new.reached.end in
+    let arrivals = c.arrive.new.arrivals in
     let next : l.number ≡ l.number + 1 - 1 = omega arith in
-    let label = label_in size l.work l.number in
-    let start = subst (λ (heads : List (Option ℕ)). Chained s.stops.now label 0 (record { heads = heads; nexts = l.reached.arrivals.nexts })) (sym l.invariant.fresh) (chained_none s.stops.now label l.reached.arrivals.nexts l.invariant.long) in
-    let all = subst (Chained s.stops.now (label_in size work l.number) (3 * size)) (sym c.swap.ensures.x_after) (c.fill_layer.ensures.chained start) in
+    let known = c.arrive.ensures.known in
+    let chained = subst (λ (e : Option (End _)). Chained s.stops.now (promising m size (known_total e) work l.number) (3 * size) arrivals) (sym known) c.arrive.ensures.chained in
     record {
       blank = blank_layer s.ordered c.fill_layer.ensures l.invariant.blank;
       known = known_layer s.ordered c.fill_layer.ensures l.invariant.known;
       filled = λ runs asked. filled_layer s.ordered c.fill_layer.ensures runs asked (l.invariant.filled runs asked);
-      linked = λ h. subst (λ (k : ℕ). Chained s.stops.now (label_in size work k) (3 * size) c.swap.new.x) next all;
-      fresh = ap (λ (a : Arrivals). a.heads) c.clear.ensures;
-      long = ap (λ (a : Arrivals). length a.nexts) (c.clear.ensures ∙ ap cleared c.swap.ensures.y_after) ∙ l.invariant.long_before;
-      long_before = all.long_nexts;
+      linked = record {
+        chained = λ h. subst (λ (k : ℕ). Chained s.stops.now (promising m size (known_total arrivals.known) work k) (3 * size) arrivals) next chained;
+        no_dearer = λ total h. subst (λ (e : Option (End _)). Hopeless m (known_total e) total) known h;
+      };
+      noted = subst (Noted size (l.number + 1) 0 work) (sym c.begin_layer.ensures) (noted_next size l.number (3 * size) work c.fill_layer.new.reached.notes (c.fill_layer.ensures.noted l.invariant.noted));
+      long = c.arrive.ensures.chained.long_nexts;
     }
 
 pub returns : goal.returns
 returns g c =
     let s = c.args.self.now in
     let l = c.loop-number in
-    let m = g.P.Tariff.meaning s.tariff.now in
-    let all : l.number ≡ s.query.now.changes + 1 = omega arith in
-    let filled : AllFilled m s.query.now s.trains.now s.stops.now (Asked s.query.now s.trains.now c.args.usable.now) l.work l.reached.end l.number =
-    record { few = omega arith; all = inl all; blank = l.invariant.blank; known = l.invariant.known; filled = l.invariant.filled }
-    in
-    record { filled = subst (λ (k : ℕ). AllFilled m s.query.now s.trains.now s.stops.now (Asked s.query.now s.trains.now c.args.usable.now) l.work l.reached.end k) all filled }
+    record { filled = record { layers = l.number; few = omega arith; all = inl (omega arith); elsewhere = l.invariant.noted.elsewhere; known = l.invariant.known; filled = l.invariant.filled } }

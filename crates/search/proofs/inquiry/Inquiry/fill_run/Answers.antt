@@ -5,15 +5,15 @@ use Rattle.book.specs.Answers.{train_row}
 use Rattle.book.specs.Rules.{stop_at}
 use Rattle.book.specs.declared.rows.StopRow.{StopRow}
 use Rattle.connection.specs.Choosing.{cheaper as cheaper_of}
-use Rattle.search.specs.Chains.{arrived}
 use Rattle.search.specs.Ends.{ends_no_dearer, known_total, is_end, end_here}
 use Rattle.search.specs.Layers.{row_of}
+use Rattle.search.specs.Notes.{noted}
 use Rattle.search.specs.Records.{record_of}
 use Rattle.search.specs.Working.{number, layer_at, part_at, if_worth_following}
 use Rattle.search.proofs.Basis.{Basis, timetable_of}
 use Rattle.search.proofs.BlankRecords.{blank_less}
 use Rattle.search.proofs.FillingRuns.{FilledTo, filled_none, filled_more, comes_next, fills_run}
-use Rattle.search.proofs.Layering.{record_below}
+use Rattle.search.proofs.Layering.{record_below, few_records}
 use Rattle.search.proofs.RowsAreTrains.{fits, own_count, own_stop}
 use Rattle.search.proofs.Unchanged.{linked_same}
 use Rattle.search.proofs.WrittenRecords.{unchanged_still}
@@ -49,7 +49,8 @@ boarding-boarded-requires-clause-linked g c later =
     let at : layer_at (length s.stops.now) a.layer.number + (c.place-place.result + l.i) ≡ part_at (length s.stops.now) a.layer.number a.run.shift + row.first + l.i = omega (arith, c.place-place.ensures) in
     let next = c.keep.ensures.work ∙ ap (λ x. set l.work x (record_of c.if_worth_following-aboard.result)) at in
     let unchanged = unchanged_still (part_at (length s.stops.now) a.layer.number a.run.shift + row.first) l.i a.work.now l.work c.keep.new.work c.if_worth_following-aboard.result l.invariant.unchanged next in
-    linked_same s.stops.now a.layer.number (a.layer.number - 1) a.work.now c.keep.new.work a.arrivals.now (omega arith) (λ z h. unchanged z (omega arith)) (c.requires.linked later)
+    let end = a.reached.now.end in
+    (linked_same (g.P.Tariff.meaning s.tariff.now) s.stops.now a.layer.number a.work.now c.keep.new.work a.arrivals.now end end (λ z h. unchanged z (omega arith)) (λ t h. h) c.requires.linked).chained later
 
 pub keep-requires-clause-blank : goal.keep-requires-clause-blank
 keep-requires-clause-blank g c =
@@ -80,17 +81,18 @@ loop-i-preserved g c =
     let spot = ap (λ x. x + l.i) c.place-place.ensures ∙ add_assoc (number a.run.shift * size) row.first l.i in
     let stop_is = ap (λ x. stop_at x l.i) c.stops-stops.ensures ∙ own_stop s.trains.now s.stops.now s.ordered n l.i li in
     let ends = λ (stop : StopRow) (x : ℕ). cheaper_of (ends_no_dearer m) l.reached.end (end_here (is_end stop s.query.now.destination) layer x c.if_worth_following-aboard.result) in
-    let arrivals = c.keep.ensures.arrivals ∙ ap₂ (λ (stop : StopRow) (x : ℕ). arrived l.reached.arrivals stop.station x c.if_worth_following-aboard.result) stop_is spot in
+    let few : part_at size layer a.run.shift + row.first + l.i < 64 * 3072 = omega (arith, few_records size layer a.run.shift (row_of s.trains.now n l.i) (omega arith) s.ordered.few_stops a.layer.shallow) in
     let known = c.keep.ensures.end ∙ ap₂ ends stop_is spot in
     let kept = c.if_worth_following-aboard.ensures ∙ ap (λ x. if_worth_following m size l.work x (known_total l.reached.end) layer l.aboard) spot in
     let at : layer_at (length s.stops.now) a.layer.number + (c.place-place.result + l.i) ≡ part_at (length s.stops.now) a.layer.number a.run.shift + row.first + l.i = omega (arith, c.place-place.ensures) in
+    let notes = c.keep.ensures.notes ∙ ap₂ (λ (x y : ℕ). noted l.reached.notes x y c.if_worth_following-aboard.result) spot at in
     let next = c.keep.ensures.work ∙ ap (λ x. set l.work x (record_of c.if_worth_following-aboard.result)) at in
-    filled_more m s.query.now s.trains.now s.stops.now layer n a.run.shift a.reached.now basis c.requires.in_force a.work.now l.work l.i l.found l.aboard c.if_worth_following-aboard.result l.reached c.keep.new.reached l.invariant li room kept c.keep.new.work next known arrivals (l.found || c.is_some-found.result) c.match-get.aboard (ap (λ b. l.found || b) c.is_some-found.ensures)
+    filled_more m s.query.now s.trains.now s.stops.now layer n a.run.shift a.reached.now basis c.requires.in_force a.work.now l.work l.i l.found l.aboard c.if_worth_following-aboard.result l.reached c.keep.new.reached l.invariant li room few kept c.keep.new.work next known notes (l.found || c.is_some-found.result) c.match-get.aboard (ap (λ b. l.found || b) c.is_some-found.ensures)
     (elim c.match-get.branch [
       | in-Some w ↦
           let on : l.i + 1 < length c.stops-stops.result.now = ltb-true _ _ (sym w.in-Some.ensures.lookup.0) in
           let there_is = get_or_read c.stops-stops.result.now (l.i + 1) _ on w.in-Some.ensures.lookup.1 _ ∙ ap (λ x. stop_at x (l.i + 1)) c.stops-stops.ensures ∙ own_stop s.trains.now s.stops.now s.ordered n (l.i + 1) (omega arith) in
-          comes_next m s.query.now s.trains.now s.stops.now layer n a.run.shift a.reached.now basis c.requires.in_force a.work.now l.work l.i l.found l.aboard c.if_worth_following-aboard.result l.reached c.keep.new.reached l.invariant li room kept c.keep.new.work next known arrivals _ w.in-Some.next.now w.boarding-boarded.result c.match-get.aboard stop_is there_is (omega arith) w.boarding-boarded.ensures.settles (w.aboard-is ∙ w.ride_on-aboard.ensures)
+          comes_next m s.query.now s.trains.now s.stops.now layer n a.run.shift a.reached.now basis c.requires.in_force a.work.now l.work l.i l.found l.aboard c.if_worth_following-aboard.result l.reached c.keep.new.reached l.invariant li room few kept c.keep.new.work next known notes _ w.in-Some.next.now w.boarding-boarded.result w.if_promising-boarded.result c.match-get.aboard a.arrivals.now.known c.requires.linked.no_dearer stop_is there_is (omega arith) w.boarding-boarded.ensures.settles w.if_promising-boarded.ensures (w.aboard-is ∙ w.ride_on-aboard.ensures)
       | in_default w ↦ λ runs may filled more. let none : length c.stops-stops.result.now ≤ l.i + 1 = ltb-false _ _ (sym w.in_default.ensures.lookup.0) in absurd (omega arith)
     ])
 

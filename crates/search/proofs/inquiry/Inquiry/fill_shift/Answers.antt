@@ -2,8 +2,8 @@ use Rattle.std.proofs.Common.{ℕ, ◌+◌, ◌-◌, false, length, sym, ap, ◌
 use Rattle.std.proofs.Math.Bool.{or-false}
 use Rattle.std.proofs.lemmas.List.{length-take-le, get_or-take}
 use Rattle.book.specs.Answers.{train_row}
-use Rattle.search.specs.Chains.{LinkedBefore}
 use Rattle.search.specs.Layers.{Fills, ShiftAsked, BlankFrom}
+use Rattle.search.specs.Notes.{Noted}
 use Rattle.search.specs.Working.{place, layer_at}
 use Rattle.search.proofs.Basis.{Basis, timetable_of}
 use Rattle.search.proofs.FillingLayers.{fills_none, fills_then}
@@ -11,7 +11,7 @@ use Rattle.search.proofs.IdleRuns.{fills_unused, fills_out_of_reach}
 use Rattle.search.proofs.RowsAreTrains.{first_first, next_first, last_ends, none_none}
 use Rattle.search.proofs.Unchanged.{linked_same}
 use Rattle.search.proofs.inquiry.Inquiry.fill_shift.Goals as goal
-use Rattle.search.proofs.inquiry.Inquiry.fill_shift.Goals.{then-usable+then-may_be_boarded, else-usable, else-usable-via-then-usable+else-may_be_boarded, else-usable-via-else-usable}
+use Rattle.search.proofs.inquiry.Inquiry.fill_shift.Goals.{then-usable+then-missed_by-train, else-usable, else-usable-via-then-usable+else-missed_by-train, else-usable-via-else-usable}
 
 pub loop-train-init : goal.loop-train-init
 loop-train-init g c =
@@ -19,11 +19,21 @@ loop-train-init g c =
     (0, fills_none s.ordered, λ h. first_first s.trains.now s.stops.now s.ordered h, λ h. sym (none_none s.trains.now s.stops.now s.ordered (omega arith)))
 
 pub fill_run-found-requires-clause-linked : goal.fill_run-found-requires-clause-linked
-fill_run-found-requires-clause-linked g c later =
+fill_run-found-requires-clause-linked g c =
     let a = c.args in
     let s = a.self.now in
     let so_far = c.loop-train.invariant.1 in
-    linked_same s.stops.now a.layer.number (a.layer.number - 1) a.work.now c.loop-train.work a.arrivals.now (omega arith) (λ z h. so_far.unchanged z (omega arith)) (c.requires.linked later)
+    linked_same (g.P.Tariff.meaning s.tariff.now) s.stops.now a.layer.number a.work.now c.loop-train.work a.arrivals.now a.reached.now.end c.loop-train.reached.end (λ z h. so_far.unchanged z (omega arith)) so_far.no_dearer c.requires.linked
+
+pub fill_run-found-requires-clause-noted : goal.fill_run-found-requires-clause-noted
+fill_run-found-requires-clause-noted g c =
+    let a = c.args in
+    let s = a.self.now in
+    let size = length s.stops.now in
+    let l = c.loop-train in
+    let long = length-take-le (length s.trains.now) a.usable.now c.requires.each in
+    let here = l.invariant.2 (omega arith) in
+    subst (λ (r : ℕ). Noted size a.layer.number (place size a.shift r) l.work l.reached.notes) (sym here) (l.invariant.1.noted c.requires.noted)
 
 pub fill_run-found-requires-clause-blank : goal.fill_run-found-requires-clause-blank
 fill_run-found-requires-clause-blank g c =
@@ -52,16 +62,16 @@ loop-train-preserved g c =
     let here = l.invariant.2 (omega arith) in
     let before = subst (λ (r : ℕ). Fills (g.P.Tariff.meaning s.tariff.now) s.query.now s.trains.now s.stops.now a.layer.number (ShiftAsked s.query.now s.trains.now a.shift a.usable.now) a.work.now l.work (place size a.shift 0) (place size a.shift r) l.found a.reached.now l.reached) (sym here) l.invariant.1 in
     let blank = subst (λ (r : ℕ). BlankFrom (layer_at size a.layer.number + place size a.shift r) l.work) (sym here) (l.invariant.1.blank c.requires.blank) in
-    let linked : LinkedBefore s.stops.now l.work a.layer.number a.arrivals.now = λ later. linked_same s.stops.now a.layer.number (a.layer.number - 1) a.work.now l.work a.arrivals.now (omega arith) (λ z h. l.invariant.1.unchanged z (omega arith)) (c.requires.linked later) in (
+    let linked = linked_same m s.stops.now a.layer.number a.work.now l.work a.arrivals.now a.reached.now.end l.reached.end (λ z h. l.invariant.1.unchanged z (omega arith)) l.invariant.1.no_dearer c.requires.linked in (
       train.first + train.count,
       elim c.if-usable.branch [
-        | then-usable+then-may_be_boarded w ↦
+        | then-usable+then-missed_by-train w ↦
             rw (w.work-is, w.reached-is, w.found-is)
             (fills_then s.ordered before w.fill_run-found.ensures (λ runs may. sym w.if-usable.true ∙ asked ∙ may l.train (omega arith)) (omega arith))
         | else-usable w ↦
             elim w.else-usable.branch [
-              | else-usable-via-then-usable+else-may_be_boarded w' ↦
-                  let none = w'.may_be_boarded.ensures.out_of_reach w'.if-may_be_boarded.false in
+              | else-usable-via-then-usable+else-missed_by-train w' ↦
+                  let none = c.requires.out_of_reach l.train (omega arith) (omega (arith, w'.if-missed_by-train.false, w'.midnight.ensures)) in
                   let idle = fills_out_of_reach m s.query.now s.trains.now s.stops.now basis a.layer.number l.train a.shift (omega arith) l.work l.reached blank a.arrivals.now linked none in
                   rw (w.work-is, w.reached-is, w.found-is ∙ sym (or-false l.found))
                   (fills_then s.ordered before idle (λ runs may. sym w'.if-usable.true ∙ asked ∙ may l.train (omega arith)) (omega arith))

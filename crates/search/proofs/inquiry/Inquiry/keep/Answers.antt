@@ -1,7 +1,7 @@
 use Rattle.std.proofs.Common.{◌+◌, length, set, ap, sym, ◌∙◌}
 use Rattle.connection.specs.Choosing.{cheaper}
-use Rattle.search.specs.Chains.{arrived}
 use Rattle.search.specs.Ends.{ends_no_dearer, is_end, end_here}
+use Rattle.search.specs.Notes.{noted}
 use Rattle.search.specs.Records.{record_of}
 use Rattle.search.specs.Working.{layer_at}
 use Rattle.search.proofs.BlankRecords.{blank_kept}
@@ -20,5 +20,5 @@ returns-in_default g c =
     record {
       work = blank_kept at a.work.now c.requires.blank ∙ ap (λ o. set a.work.now at (record_of o)) none;
       end = cheaper_none (ends_no_dearer m) a.reached.now.end ∙ ap (cheaper (ends_no_dearer m) a.reached.now.end) (sym (no_end_here b a.layer.number a.place) ∙ ap (end_here b a.layer.number a.place) none);
-      arrivals = ap (arrived a.reached.now.arrivals a.stop.now.station a.place) none;
+      notes = ap (noted a.reached.now.notes a.place at) none;
     }

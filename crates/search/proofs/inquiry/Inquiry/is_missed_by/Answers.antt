@@ -1,0 +1,41 @@
+use Rattle.std.proofs.Common.{◌≡◌, ℕ, ◌+◌, ◌-◌, ◌<◌, min, length, sym, ap, ap₂, ◌∙◌, subst, arith}
+use Rattle.book.specs.Answers.{train_row}
+use Rattle.book.specs.Rules.{stop_at}
+use Rattle.connection.specs.Rides.{may_board, departure}
+use Rattle.search.specs.Chains.{there_from}
+use Rattle.search.proofs.MissedTrains.{MissedBy, missed_none, missed_over, missed_more, out_of_reach, within_reach}
+use Rattle.search.proofs.RowsAreTrains.{own_count, own_stop}
+use Rattle.search.proofs.inquiry.Inquiry.is_missed_by.Goals as goal
+use Rattle.search.proofs.inquiry.Inquiry.is_missed_by.Goals.{then-may_board, else-may_board}
+
+pub loop-stop-preserved : goal.loop-stop-preserved
+loop-stop-preserved g c =
+    let s = c.args.self.now in
+    let n = c.args.train in
+    let k = c.args.layer.number in
+    let l = c.loop-stop in
+    let arrivals = c.args.arrivals.now in
+    let long : length c.stops-stop-items.result.now ≡ (train_row n s.trains.now).count = ap length c.stops-stop-items.ensures ∙ own_count s.trains.now s.stops.now s.ordered n c.requires.in_force in
+    let is = ap (λ x. stop_at x l.stop-index) c.stops-stop-items.ensures ∙ own_stop s.trains.now s.stops.now s.ordered n l.stop-index (omega arith) in
+    elim c.if-may_board.branch [
+      | then-may_board w ↦
+          let late = w.saturating_sub.ensures ∙ ap₂ (λ (x y : ℕ). x - y) (w.there_from-there.ensures ∙ ap (λ stop. there_from arrivals k s.query.now stop.station) is) (w.departure.ensures ∙ ap departure is) in
+          rw (w.fewest-is ∙ w.min-fewest.ensures ∙ ap (min l.fewest) late)
+          (missed_more s.trains.now s.stops.now k s.query.now arrivals n l.stop-index l.fewest l.invariant (ap may_board (sym is) ∙ sym c.may_board.ensures ∙ w.if-may_board.true))
+      | else-may_board w ↦
+          rw w.fewest-is
+          (missed_over s.trains.now s.stops.now k s.query.now arrivals n l.stop-index l.fewest l.invariant (ap may_board (sym is) ∙ sym c.may_board.ensures ∙ w.if-may_board.false))
+    ]
+
+pub returns : goal.returns
+returns g c =
+    let s = c.args.self.now in
+    let n = c.args.train in
+    let l = c.loop-stop in
+    let long : length c.stops-stop-items.result.now ≡ (train_row n s.trains.now).count = ap length c.stops-stop-items.ensures ∙ own_count s.trains.now s.stops.now s.ordered n c.requires.in_force in
+    let end : l.stop-index ≡ (train_row n s.trains.now).count = omega arith in
+    let all = subst (λ (i : ℕ). MissedBy s.trains.now s.stops.now c.args.layer.number s.query.now c.args.arrivals.now n i l.fewest) end l.invariant in
+    record {
+      out_of_reach = λ day. out_of_reach s.trains.now s.stops.now c.args.layer.number s.query.now c.args.arrivals.now n l.fewest all day;
+      within_reach = λ day. within_reach s.trains.now s.stops.now c.args.layer.number s.query.now c.args.arrivals.now n l.fewest all day;
+    }

@@ -1,0 +1,6 @@
+use Rattle.search.proofs.MissedTrains.{MissedBy}
+use Rattle.search.proofs.inquiry.Inquiry.is_missed_by.Given as goal
+
+-- by that many minutes it is missed at the stops ahead
+abbrev pub invariant-loop-stop : goal.invariant-loop-stop
+invariant-loop-stop g l = MissedBy l.self.trains.now l.self.stops.now l.layer.number l.self.query.now l.arrivals l.train l.stop-index l.fewest

@@ -1,0 +1,42 @@
+// The labels of a layer as the arrivals ahead of the next.
+ghost use Rattle.std.specs.Prelude.{◌≡◌, ◌+◌, ◌*◌, length};
+ghost use Rattle.search.specs.Chains.{Chained, promising};
+ghost use Rattle.search.specs.Ends.{known_total};
+ghost use Rattle.search.specs.Notes.{Listed};
+ghost use Rattle.search.specs.Working.{HasLayers};
+
+use crate::chains::Arrivals;
+use crate::inquiry::Inquiry;
+use crate::layer::Layer;
+use crate::reached::Reached;
+use crate::record::WorkRecord;
+use crate::table::label_at;
+use tariff::Tariff;
+
+impl<P: Tariff> Inquiry<'_, P> {
+    // Takes those that are promising. Whoever changes from another only ends up as dear as the known end.
+    pub fn arrive(
+        &self,
+        work: &[WorkRecord<P::Total>],
+        layer: Layer,
+        reached: &Reached<P::Total>,
+        arrivals: &mut Arrivals<P::Total>,
+    )
+        requires within { HasLayers (length self.now.stops.now) work.now (layer.number + 1) }
+        requires listed { Listed (length self.now.stops.now) layer.number (3 * length self.now.stops.now) work.now reached.now.notes }
+        requires long { length arrivals.old.nexts ≡ 12288 }
+        ensures known { arrivals.new.known ≡ reached.now.end }
+        ensures chained { Chained self.now.stops.now (promising (P.Tariff.meaning self.now.tariff.now) (length self.now.stops.now) (known_total reached.now.end) work.now layer.number) (3 * length self.now.stops.now) arrivals.new }
+    {
+        arrivals.clear(reached.end);
+        let at = self.layer_at(layer);
+        for place in reached.notes.places() {
+            let place = *place as usize;
+            let label = self.if_promising(reached.end, label_at(work, at + place));
+            if label.is_some() {
+                let (shift, row) = self.shift_and_row(place);
+                arrivals.add(self.stops[row].station, self.reaches(row, shift), place);
+            }
+        }
+    }
+}

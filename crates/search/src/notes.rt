@@ -1,0 +1,55 @@
+// Where labels are written, so that they are found again without looking the whole table over.
+//
+//     places: 1, 4, 7             the places with a label in the layer that is being filled, in their order
+//     touched: block 0, ..        the blocks of the table in which one is written
+ghost use Rattle.std.specs.Prelude.{◌≡◌, ◌*◌, ◌<◌, ◌≤◌, length, take};
+ghost use Rattle.search.specs.Notes.{no_notes, for_next_layer, with_note};
+
+// How many records are one block.
+pub const BLOCK: usize = 64;
+
+#[derive(Drop)]
+pub struct Notes {
+    pub places: [u16; 12288],
+    pub count: usize,
+    pub touched: [bool; 3072],
+}
+
+impl Notes {
+    pub fn none() -> Notes
+        ensures { result ≡ no_notes }
+    {
+        Notes {
+            places: [0; 12288],
+            count: 0,
+            touched: [false; 3072],
+        }
+    }
+
+    // The places that are noted of the layer.
+    pub fn places(&self) -> &[u16]
+        requires few { self.now.count ≤ length self.now.places }
+        ensures { result.now ≡ take self.now.count self.now.places }
+    {
+        &self.places[..self.count]
+    }
+
+    // Notes that a label is written at the place of the layer, in that record of the table.
+    pub fn add(&mut self, place: usize, at: usize)
+        requires room { self.old.count < 12288 }
+        requires placed { place < 12288 }
+        requires inside { at < 64 * 3072 }
+        ensures { self.new ≡ with_note self.old place at }
+    {
+        self.places[self.count] = place as u16;
+        self.count += 1;
+        self.touched[at / BLOCK] = true;
+    }
+
+    // Begins the next layer.
+    pub fn begin_layer(&mut self)
+        ensures { self.new ≡ for_next_layer self.old }
+    {
+        self.count = 0;
+    }
+}

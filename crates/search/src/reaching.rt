@@ -1,0 +1,61 @@
+// Which runs can be boarded at all, so that the others are passed over.
+ghost use Rattle.std.specs.Prelude.{◌≡◌, ℕ, ◌<◌, ◌≤◌, length, slice_index_or};
+ghost use Rattle.book.specs.Limits.{last_station};
+ghost use Rattle.connection.specs.Clock.{midnight};
+ghost use Rattle.connection.specs.declared.ride.Shift.{Shift as AShift};
+ghost use Rattle.search.specs.Chains.{there_from, OutOfReach, WithinReach};
+
+use crate::chains::{Arrivals, NEVER};
+use crate::inquiry::Inquiry;
+use crate::layer::Layer;
+use crate::minutes::departure;
+use connection::allowed::may_board;
+use tariff::Tariff;
+
+impl<P: Tariff> Inquiry<'_, P> {
+    // For each train by how many minutes its run of the day before is missed, after as many changes as the layer has. A run
+    // of a later shift leaves that much later, and is boarded where this makes up for it.
+    pub fn missed_by(&self, layer: Layer, arrivals: &Arrivals<P::Total>) -> [u16; 512]
+        ensures out_of_reach { (n : ℕ) (s : AShift) → n < length self.now.trains.now → midnight s < slice_index_or result n 0 → OutOfReach self.now.trains.now self.now.stops.now layer.number self.now.query.now arrivals.now n s }
+        ensures within_reach { (n : ℕ) (s : AShift) → n < length self.now.trains.now → slice_index_or result n 0 ≤ midnight s → WithinReach self.now.trains.now self.now.stops.now layer.number self.now.query.now arrivals.now n s }
+        ensures each { length result ≡ 512 }
+    {
+        let mut missed_by = [0; 512];
+        for n in 0..self.trains.len() {
+            missed_by[n] = self.is_missed_by(layer, arrivals, n);
+        }
+        missed_by
+    }
+
+    // By how many minutes that is for one train: the fewest at a stop of it.
+    fn is_missed_by(&self, layer: Layer, arrivals: &Arrivals<P::Total>, train: usize) -> u16
+        requires in_force { train < length self.now.trains.now }
+        ensures out_of_reach { (s : AShift) → midnight s < result → OutOfReach self.now.trains.now self.now.stops.now layer.number self.now.query.now arrivals.now train s }
+        ensures within_reach { (s : AShift) → result ≤ midnight s → WithinReach self.now.trains.now self.now.stops.now layer.number self.now.query.now arrivals.now train s }
+    {
+        let mut fewest = NEVER;
+        for stop in self.trains[train].stops(self.stops) {
+            if may_board(stop) {
+                let there = self.there_from(layer, arrivals, stop.station);
+                fewest = fewest.min(there.saturating_sub(departure(stop)));
+            }
+        }
+        fewest
+    }
+
+    // The minute from which on one is at the station: at the start at the origin, later where somebody has come with a
+    // change less.
+    fn there_from(&self, layer: Layer, arrivals: &Arrivals<P::Total>, station: u16) -> u16
+        requires known { station ≤ last_station }
+        ensures { result ≡ there_from arrivals.now layer.number self.now.query.now station }
+    {
+        if layer.number > 0 {
+            return arrivals.earliest[station as usize];
+        }
+        if station == self.query.origin {
+            self.ready()
+        } else {
+            NEVER
+        }
+    }
+}
