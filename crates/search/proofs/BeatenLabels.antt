@@ -1,35 +1,17 @@
 -- A label is beaten where a layer before it holds one that costs no more, and hopeless where a known connection does.
-use Rattle.std.proofs.Common.{◌≡◌, ℕ, zero, suc, ◌+◌, ◌<◌, Bool, true, false, ◌||◌, T, ◌⊎◌, List, Some, None, Option, sym, refl, ap, ◌∙◌, subst, inl, inr, add-one, add-zero, zero-add, arith}
-use Rattle.std.proofs.Math.Bool.{or_assoc, or-false}
-use Rattle.std.specs.List.{list_any, range_with_len}
+use Rattle.std.proofs.Common.{◌≡◌, ℕ, zero, suc, ◌+◌, ◌<◌, Bool, true, false, cond, ◌||◌, T, ◌⊎◌, List, Some, None, Option, sym, refl, ap, ◌∙◌, subst, inl, inr, add-one, add-zero, zero-add, arith}
+use Rattle.std.proofs.lemmas.Option.{none-some, same_Some}
 use Rattle.tariff.specs.Meaning.{Meaning}
 use Rattle.connection.specs.Settled.{Hopeless}
 use Rattle.connection.specs.declared.label.Label.{Label}
-use Rattle.search.specs.Working.{layer_at, label_at, costs_no_more, hopeless, beaten}
+use Rattle.search.specs.Working.{layer_at, label_at, costs_no_more, hopeless, beaten, if_worth_following}
 use Rattle.search.specs.declared.record.WorkRecord.{WorkRecord}
-
--- a test that holds of one of the first numbers, told one number after another
-any_up_to : (test below : ℕ → Bool) → ((k : ℕ) → below (suc k) ≡ (below k || test k)) → (k n : ℕ) → (below k || list_any test (range_with_len k n)) ≡ below (k + n)
-any_up_to test below step k zero = or-false (below k) ∙ ap below (sym (add-zero k))
-any_up_to test below step k (suc n) =
-    let rest = list_any test (range_with_len (k + 1) n) in
-    let up : k + 1 + n ≡ k + suc n = omega arith in
-    sym (or_assoc (below k) (test k) rest)
-    ∙ ap (λ b. b || rest) (sym (step k) ∙ ap below (sym (add-one k)))
-    ∙ any_up_to test below step (k + 1) n
-    ∙ ap below up
 
 either_or : (a b : Bool) → (a || b) ≡ true → (a ≡ true) ⊎ (b ≡ true)
 either_or true b e = inl refl
 either_or false b e = inr e
 
 module _ {A : Type 0} (m : Meaning A) (size : ℕ) (table : List (WorkRecord A)) (at : ℕ) (total : A) where
-  -- what is looked through, layer after layer
-  pub any_beats : (layer : ℕ) → list_any (λ k. costs_no_more m (label_at table (layer_at size k + at)) total) (range_with_len 0 layer) ≡ beaten m size table at layer total
-  any_beats layer =
-      any_up_to (λ k. costs_no_more m (label_at table (layer_at size k + at)) total) (λ k. beaten m size table at k total) (λ k. refl) 0 layer
-      ∙ ap (λ k. beaten m size table at k total) (zero-add layer)
-
   -- which layer beats it, and with which label
   pub record Beater (layer : ℕ) : Type 0 where
     pub in_layer : ℕ
@@ -54,3 +36,13 @@ module _ {A : Type 0} (m : Meaning A) (size : ℕ) (table : List (WorkRecord A))
 pub is_hopeless : {A : Type 0} (m : Meaning A) (known : Option A) (t : A) → hopeless m known t ≡ true → Hopeless m known t
 is_hopeless m None t e = let z : ◌≡◌ {A = ℕ} 0 1 = cc in absurd (omega arith)
 is_hopeless m (Some best) t e = subst T (sym e) tt
+
+-- a label that is worth following is not beaten
+pub worth_not_beaten : {A : Type 0} (m : Meaning A) (size : ℕ) (table : List (WorkRecord A)) (at : ℕ) (known : Option A) (layer : ℕ) (o : Option (Label A)) (l : Label A) → if_worth_following m size table at known layer o ≡ Some l → beaten m size table at layer l.total ≡ false
+worth_not_beaten m size table at known layer None l e = absurd (none-some l e)
+worth_not_beaten {A} m size table at known layer (Some x) l e = go (hopeless m known x.total) (beaten m size table at layer x.total) refl e
+  where
+    go : (a b : Bool) → beaten m size table at layer x.total ≡ b → cond (a || b) None (Some x) ≡ Some l → beaten m size table at layer l.total ≡ false
+    go true b eb f = absurd (none-some l f)
+    go false true eb f = absurd (none-some l f)
+    go false false eb f = subst (λ (y : Label A). beaten m size table at layer y.total ≡ false) (same_Some x l f) eb

@@ -28,7 +28,7 @@ use Rattle.search.specs.declared.ends.End.{End}
 use Rattle.search.specs.declared.reached.Reached.{Reached}
 use Rattle.search.specs.declared.record.WorkRecord.{WorkRecord}
 use Rattle.search.proofs.Basis.{Basis}
-use Rattle.search.proofs.BeatenLabels.{Beater, beater, is_hopeless}
+use Rattle.search.proofs.BeatenLabels.{Beater, beater, is_hopeless, worth_not_beaten}
 use Rattle.search.proofs.BlankRecords.{blank_less, blank_behind}
 use Rattle.search.proofs.Chaining.{not_some}
 use Rattle.search.proofs.KnownEnds.{cheaper_no_dearer, known_more}
@@ -66,7 +66,7 @@ module _ {A : Type 0} (m : Meaning A) (q : Query) (rows : List TrainRow) (stops 
     pub nothing : found ≡ false → (j : ℕ) → j < i → label_at new (start + j) ≡ None
     pub known_end : Known stops old q.destination (layer_at size layer + place size s first) m before.end → Known stops new q.destination (start + i) m now.end
     pub no_dearer : NoDearer m before.end now.end
-    pub noted : Noted size layer (place size s first) old before.notes → Noted size layer (place size s first + i) new now.notes
+    pub noted : Noted m size old layer (place size s first) before.notes → Noted m size new layer (place size s first + i) now.notes
     pub settled : When (λ runs. (j : ℕ) → j < i → Holds m runs q rows stops (known_total now.end) old layer n s j (label_at new (start + j))) old
     pub coming : When (λ runs. i < count → Holds m runs q rows stops (known_total now.end) old layer n s i aboard) old
 
@@ -91,7 +91,7 @@ module _ {A : Type 0} (m : Meaning A) (q : Query) (rows : List TrainRow) (stops 
           nothing = λ e j h. absurd (omega arith);
           known_end = subst (λ (x : ℕ). Known stops old q.destination x m before.end) (omega (arith, start_is));
           no_dearer = λ t h. h;
-          noted = subst (λ (x : ℕ). Noted size layer x old before.notes) (omega arith);
+          noted = subst (λ (x : ℕ). Noted m size old layer x before.notes) (omega arith);
           settled = λ runs may filled j h. absurd (omega arith);
           coming = λ runs may filled h. settles_first_stop m basis.connex basis.transitive basis.grows basis.keeps basis.starts basis.counts trains punctual runs q (known_total before.end) (Trail rows size old layer) layer n s;
         }
@@ -126,7 +126,7 @@ module _ {A : Type 0} (m : Meaning A) (q : Query) (rows : List TrainRow) (stops 
           go false e false f = h
 
     -- ---- one stop more
-    module _ (old new : List (WorkRecord A)) (i : ℕ) (found : Bool) (aboard KeptLabel : Option (Label A)) (now now' : Reached A) (state : FilledTo old new i found aboard now) (li : i < count) (room : start + i < length new) (few_records : start + i < 64 * 3072) (is_kept : KeptLabel ≡ if_worth_following m size new (place size s (row_of rows n i)) (known_total now.end) layer aboard) (next : List (WorkRecord A)) (is_next : next ≡ set new (start + i) (record_of KeptLabel)) (is_known : now'.end ≡ cheaper (ends_no_dearer m) now.end (end_here (is_end (stop_at stops (row_of rows n i)) q.destination) layer (place size s (row_of rows n i)) KeptLabel)) (is_noted : now'.notes ≡ with_label now.notes (place size s (row_of rows n i)) (start + i) KeptLabel) where
+    module _ (old new : List (WorkRecord A)) (i : ℕ) (found : Bool) (aboard KeptLabel : Option (Label A)) (now now' : Reached A) (state : FilledTo old new i found aboard now) (li : i < count) (room : start + i < length new) (few_records : start + i < 64 * 3072) (is_kept : KeptLabel ≡ if_worth_following m size new (place size s (row_of rows n i)) (known_total now.end) layer aboard) (next : List (WorkRecord A)) (is_next : next ≡ set new (start + i) (record_of KeptLabel)) (is_known : now'.end ≡ cheaper (ends_no_dearer m) now.end (end_here (is_end (stop_at stops (row_of rows n i)) q.destination) layer (place size s (row_of rows n i)) KeptLabel)) (is_noted : now'.notes ≡ with_label now.notes layer (place size s (row_of rows n i)) (start + i) KeptLabel) where
       abbrev known : Option (End A)
       known = now.end
 
@@ -154,16 +154,19 @@ module _ {A : Type 0} (m : Meaning A) (q : Query) (rows : List TrainRow) (stops 
           let more = known_more m basis.connex basis.transitive stops q.destination layer s (row_of rows n i) (start + i) (omega arith) at_is new next KeptLabel room is_next known known' is_known (state.known_end h) in
           subst (λ (x : ℕ). Known stops next q.destination x m known') (add_assoc start i 1) more
 
-      next_noted : Noted size layer (place size s first) old before.notes → Noted size layer (place size s first + (i + 1)) next now'.notes
+      -- the label that is kept is not beaten
+      fresh : (l : Label A) → KeptLabel ≡ Some l → beaten m size new (place size s (row_of rows n i)) layer l.total ≡ false
+      fresh l e = worth_not_beaten m size new (place size s (row_of rows n i)) (known_total known) layer aboard l (sym is_kept ∙ e)
+
+      next_noted : Noted m size old layer (place size s first) before.notes → Noted m size next layer (place size s first + (i + 1)) now'.notes
       next_noted h =
           let row = row_of rows n i in
           let inside : row < size = omega (arith, fits rows stops basis.timetable.ordered n ln) in
           let here : place size s first + i ≡ place size s row = add_assoc (number s * size) first i in
-          let so_far = subst (λ (x : ℕ). Noted size layer x new now.notes) here (state.noted h) in
-          let few : place size s row < 12288 = omega (arith, place_below s size row inside, basis.timetable.ordered.few_stops) in
-          let more = noted_written size layer (place size s row) (start + i) at_is few few_records new next room now.notes KeptLabel is_next so_far in
+          let so_far = subst (λ (x : ℕ). Noted m size new layer x now.notes) here (state.noted h) in
+          let more = noted_written m size layer basis.connex basis.transitive (place size s row) (start + i) at_is (place_below s size row inside) (omega (arith, basis.timetable.ordered.few_stops)) few_records new next room now.notes KeptLabel is_next fresh so_far in
           let there : place size s row + 1 ≡ place size s first + (i + 1) = omega (arith, here) in
-          subst (λ (x : ℕ). Noted size layer x next now'.notes) there (subst (Noted size layer (place size s row + 1) next) (sym is_noted) more)
+          subst (λ (x : ℕ). Noted m size next layer x now'.notes) there (subst (Noted m size next layer (place size s row + 1)) (sym is_noted) more)
 
       kept_holds : When (λ runs. Still runs i KeptLabel) old
       kept_holds runs may filled = still runs i KeptLabel (subst (Holds m runs q rows stops (known_total known) old layer n s i) (sym is_kept) (kept old new state.unchanged known runs filled i li aboard (state.coming runs may filled li)))
@@ -253,8 +256,8 @@ module _ {A : Type 0} (m : Meaning A) (q : Query) (rows : List TrainRow) (stops 
       run_blank : BlankFrom (layer_at size layer + place size s (row_of rows n count)) new
       run_blank = blank_less (start + count) (layer_at size layer + place size s (row_of rows n count)) new (omega (arith, start_is, add_assoc (number s * size) first count)) state.blank
 
-      run_noted : Noted size layer (place size s first) old before.notes → Noted size layer (place size s (row_of rows n count)) new now.notes
-      run_noted h = subst (λ (x : ℕ). Noted size layer x new now.notes) (add_assoc (number s * size) first count) (state.noted h)
+      run_noted : Noted m size old layer (place size s first) before.notes → Noted m size new layer (place size s (row_of rows n count)) now.notes
+      run_noted h = subst (λ (x : ℕ). Noted m size new layer x now.notes) (add_assoc (number s * size) first count) (state.noted h)
 
       pub fills_run : Fills m q rows stops layer (RunAsked q (train_row n rows) s true) old new (run_begins rows size n s) (run_ends rows size n s) found before now
       fills_run = record { unchanged = run_unchanged; blank = λ h. run_blank; nothing = run_nothing; known = run_known; no_dearer = state.no_dearer; noted = run_noted; settled = run_settled }

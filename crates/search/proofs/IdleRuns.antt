@@ -67,7 +67,7 @@ module _ {A : Type 0} (m : Meaning A) (q : Query) (rows : List TrainRow) (stops 
           nothing = λ e n' s' i' ln' li' low high. no_label s' (row_of rows n' i') low;
           known = known_over m basis.connex basis.transitive stops q.destination (layer_at size layer + run_begins rows size n s) (layer_at size layer + run_ends rows size n s) table before.end begins blank;
           no_dearer = λ t h. h;
-          noted = noted_over size layer (run_begins rows size n s) (run_ends rows size n s) table before.notes (omega arith) blank;
+          noted = noted_over m size layer (run_begins rows size n s) (run_ends rows size n s) table before.notes (omega arith) blank;
           settled = λ runs may filled n' s' i' ln' li' low high.
               subst (Holds m runs q rows stops (known_total before.end) table layer n' s' i') (sym (no_label s' (row_of rows n' i') low))
               (of_the_run m q rows stops layer n s before basis ln (λ k t j. Holds m runs q rows stops (known_total before.end) table layer k t j None) n' s' i' ln' li' low high
@@ -80,10 +80,10 @@ module _ {A : Type 0} (m : Meaning A) (q : Query) (rows : List TrainRow) (stops 
         fills (RunAsked q (train_row n rows) s false)
         (λ runs may filled i li. boards_nothing m rows stops basis runs q (known_total before.end) n s i ln li (Trail rows size table layer) layer (ap (λ b. b && may_board (stop_at stops (row_of rows n i))) (sym may)))
 
-    -- it may, but has left each of its stations by the time that one is there
-    pub fills_out_of_reach : (arrivals : Arrivals A) → LinkedBefore m stops table layer arrivals before.end → OutOfReach rows stops layer q arrivals n s → Fills m q rows stops layer (RunAsked q (train_row n rows) s true) table table (run_begins rows size n s) (run_ends rows size n s) false before before
-    fills_out_of_reach arrivals linked gone =
-        fills (RunAsked q (train_row n rows) s true)
+    -- it has left each of its stations by the time that one is there
+    pub fills_out_of_reach : (usable : Bool) (arrivals : Arrivals A) → LinkedBefore m stops table layer arrivals before.end → OutOfReach rows stops layer q arrivals n s → Fills m q rows stops layer (RunAsked q (train_row n rows) s usable) table table (run_begins rows size n s) (run_ends rows size n s) false before before
+    fills_out_of_reach usable arrivals linked gone =
+        fills (RunAsked q (train_row n rows) s usable)
         (λ runs may filled i li. nobody runs i li layer linked filled (gone i li) (may_use runs q (train_row n rows) s) refl (may_board (stop_at stops (row_of rows n i))) refl)
       where
         too_early : (i : ℕ) (b : Bool) → eqb (stop_at stops (row_of rows n i)).station q.origin ≡ b → departure (stop_at stops (row_of rows n i)) + midnight s < cond b (ready q) never → (eqb (stop_at stops (row_of rows n i)).station q.origin && leb (ready q) (departure (stop_at stops (row_of rows n i)) + midnight s)) ≡ false

@@ -11,13 +11,16 @@ mod Guaranteed
 mod IdleRuns
 mod KnownEnds
 mod LabelsInRecords
+mod LatestLabels
 mod Layering
 mod ListedLabels
+mod ListedPlaces
 mod MissedTrains
 mod NotedLabels
 mod Prefix
 mod PromisingLabels
 mod RowsAreTrains
+mod TouchedBlocks
 mod TrailsAreWritten
 mod Unchanged
 mod WaysToBoard

@@ -14,7 +14,7 @@ use Rattle.search.specs.declared.chains.Arrivals.{Arrivals}
 use Rattle.search.specs.declared.notes.Notes.{Notes}
 use Rattle.search.specs.declared.record.WorkRecord.{WorkRecord}
 use Rattle.search.proofs.Chaining.{chained_over, chained_more}
-use Rattle.search.proofs.NotedLabels.{next_is, none_next}
+use Rattle.search.proofs.ListedPlaces.{next_is, none_next}
 
 module _ {A : Type 0} (m : Meaning A) (stops : List StopRow) (k : ℕ) (known : Option A) (table : List (WorkRecord A)) (n : Notes) (listed : Listed (length stops) k (3 * length stops) table n) where
   abbrev size : ℕ

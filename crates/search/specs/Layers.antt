@@ -99,7 +99,7 @@ module _ {A : Type 0} (m : Meaning A) (q : Query) (rows : List TrainRow) (stops 
     pub nothing : found ≡ false → NoLabelBetween rows (length stops) new k x y
     pub known : Known stops old q.destination (layer_at (length stops) k + x) m before.end → Known stops new q.destination (layer_at (length stops) k + y) m after.end
     pub no_dearer : NoDearer m before.end after.end
-    pub noted : Noted (length stops) k x old before.notes → Noted (length stops) k y new after.notes
+    pub noted : Noted m (length stops) old k x before.notes → Noted m (length stops) new k y after.notes
     pub settled : (runs : Pairs) → May runs → Filled m runs q rows stops (known_total before.end) old k → SettledBetween runs (known_total after.end) old new k x y
 
 -- the places where a run begins and ends

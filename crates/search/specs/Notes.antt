@@ -1,28 +1,34 @@
 -- Where labels are written.
-use Rattle.std.specs.Prelude.{◌≡◌, ℕ, zero, suc, ◌+◌, ◌*◌, ◌<◌, ◌≤◌, ◌/◌, true, false, cond, List, length, replicate, Some, None, Option, slice_index_or, slice_set, nat_lt}
+use Rattle.std.specs.Prelude.{◌≡◌, ℕ, zero, suc, ◌+◌, ◌*◌, ◌<◌, ◌≤◌, ◌/◌, true, false, cond, List, length, replicate, Some, None, Option, IfSome, slice_index_or, slice_set, nat_lt}
+use Rattle.tariff.specs.Meaning.{Meaning}
 use Rattle.connection.specs.declared.label.Label.{Label}
 use Rattle.search.specs.Records.{blank}
-use Rattle.search.specs.Working.{layer_at, label_at}
+use Rattle.search.specs.Working.{layer_at, label_at, costs_no_more, beaten}
 use Rattle.search.specs.declared.notes.Notes.{Notes}
 use Rattle.search.specs.declared.record.WorkRecord.{WorkRecord}
 
 -- ---- what is noted
 abbrev pub no_notes : Notes
-no_notes = record { places = replicate 12288 0; count = 0; touched = replicate 3072 false }
+no_notes = record { places = replicate 12288 0; count = 0; touched = replicate 3072 false; latest = replicate 12288 None }
 
 -- the places of the next layer
 abbrev pub for_next_layer : Notes → Notes
-for_next_layer n = record { places = n.places; count = 0; touched = n.touched }
+for_next_layer n = record { places = n.places; count = 0; touched = n.touched; latest = n.latest }
 
--- a label is written at the place of the layer, in that record of the table
-abbrev pub with_note : Notes → (place at : ℕ) → Notes
-with_note n place at =
-    record { places = slice_set n.places n.count place; count = n.count + 1; touched = slice_set n.touched (at / 64) true }
+-- a label is written at the place of the layer k, in that record of the table
+abbrev pub with_note : Notes → (k place at : ℕ) → Notes
+with_note n k place at =
+    record {
+      places = slice_set n.places n.count place;
+      count = n.count + 1;
+      touched = slice_set n.touched (at / 64) true;
+      latest = slice_set n.latest place (Some k);
+    }
 
 -- if there is one
-abbrev pub noted : {A : Type 0} → Notes → (place at : ℕ) → Option (Label A) → Notes
-noted n place at None = n
-noted n place at (Some l) = with_note n place at
+abbrev pub noted : {A : Type 0} → Notes → (k place at : ℕ) → Option (Label A) → Notes
+noted n k place at None = n
+noted n k place at (Some l) = with_note n k place at
 
 -- ---- what that says
 -- behind the first j places
@@ -48,7 +54,25 @@ module _ {A : Type 0} where
     pub long : length n.touched ≡ 3072
     pub blank : (z : ℕ) → slice_index_or n.touched (z / 64) false ≡ false → slice_index_or table z blank ≡ blank
 
-  -- both
-  pub record Noted (size k x : ℕ) (table : List (WorkRecord A)) (n : Notes) : Type 0 where
+module _ {A : Type 0} (m : Meaning A) (size : ℕ) (table : List (WorkRecord A)) where
+  -- the label at the place in that layer
+  abbrev pub label_of_layer : ℕ → Option ℕ → Option (Label A)
+  label_of_layer z None = None
+  label_of_layer z (Some k) = label_at table (layer_at size k + z)
+
+  -- of the labels at the place in the first layers the latest alone decides what is beaten
+  pub record Decides (layers z : ℕ) (latest : Option ℕ) : Type 0 where
+    pub earlier : IfSome latest (λ k. k < layers)
+    pub as_all : (total : A) → costs_no_more m (label_of_layer z latest) total ≡ beaten m size table z layers total
+
+  -- so does the one that is noted: the layer k counts ahead of x
+  pub record LatestDecide (k x : ℕ) (n : Notes) : Type 0 where
+    pub long : length n.latest ≡ 12288
+    pub ahead : (z : ℕ) → z < x → z < 3 * size → Decides (suc k) z (slice_index_or n.latest z None)
+    pub behind : (z : ℕ) → x ≤ z → z < 3 * size → Decides k z (slice_index_or n.latest z None)
+
+  -- all that is noted
+  pub record Noted (k x : ℕ) (n : Notes) : Type 0 where
     pub listed : Listed size k x table n
     pub elsewhere : BlankElsewhere table n
+    pub latest : LatestDecide k x n

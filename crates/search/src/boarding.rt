@@ -100,6 +100,9 @@ impl<P: Tariff> Inquiry<'_, P> {
         requires linked { Chained self.now.stops.now (promising (P.Tariff.meaning self.now.tariff.now) (length self.now.stops.now) (known_total arrivals.now.known) work.now layer.number) (3 * length self.now.stops.now) arrivals.now }
         ensures best { Best (no_dearer (P.Tariff.meaning self.now.tariff.now)) (Changes (P.Tariff.meaning self.now.tariff.now) self.now.stops.now (promising (P.Tariff.meaning self.now.tariff.now) (length self.now.stops.now) (known_total arrivals.now.known) work.now layer.number) onward.station onward.minute onward.board) result }
     {
+        if onward.minute < arrivals.earliest[onward.station as usize] {
+            return None;
+        }
         let at = self.layer_at(layer);
         let mut best = None;
         let mut next = arrivals.heads[onward.station as usize];

@@ -59,7 +59,7 @@ impl<P: Tariff> Inquiry<'_, P> {
         requires within { HasLayers (length self.now.stops.now) work.old (layer.number + 1) }
         requires linked { LinkedBefore (P.Tariff.meaning self.now.tariff.now) self.now.stops.now work.old layer.number arrivals.now reached.old.end }
         requires blank { BlankFrom (layer_at (length self.now.stops.now) layer.number) work.old }
-        requires noted { Noted (length self.now.stops.now) layer.number 0 work.old reached.old.notes }
+        requires noted { Noted (P.Tariff.meaning self.now.tariff.now) (length self.now.stops.now) work.old layer.number 0 reached.old.notes }
         ensures { Fills (P.Tariff.meaning self.now.tariff.now) self.now.query.now self.now.trains.now self.now.stops.now layer.number (Asked self.now.query.now self.now.trains.now usable.now) work.old work.new 0 (3 * length self.now.stops.now) result reached.old reached.new }
     {
         let missed_by = self.missed_by(layer, arrivals);
@@ -87,12 +87,12 @@ impl<P: Tariff> Inquiry<'_, P> {
         requires each { length self.now.trains.now ≤ length usable.now }
         requires out_of_reach { (n : ℕ) → n < length self.now.trains.now → midnight shift < slice_index_or missed_by.now n 0 → OutOfReach self.now.trains.now self.now.stops.now layer.number self.now.query.now arrivals.now n shift }
         requires blank { BlankFrom (layer_at (length self.now.stops.now) layer.number + place (length self.now.stops.now) shift 0) work.old }
-        requires noted { Noted (length self.now.stops.now) layer.number (place (length self.now.stops.now) shift 0) work.old reached.old.notes }
+        requires noted { Noted (P.Tariff.meaning self.now.tariff.now) (length self.now.stops.now) work.old layer.number (place (length self.now.stops.now) shift 0) reached.old.notes }
         ensures { Fills (P.Tariff.meaning self.now.tariff.now) self.now.query.now self.now.trains.now self.now.stops.now layer.number (ShiftAsked self.now.query.now self.now.trains.now shift usable.now) work.old work.new (place (length self.now.stops.now) shift 0) (place (length self.now.stops.now) shift (length self.now.stops.now)) result reached.old reached.new }
     {
         let mut found = false;
         for (train, usable) in usable[..self.trains.len()].iter().enumerate() {
-            if *usable && missed_by[train] <= shift.midnight() {
+            if missed_by[train] <= shift.midnight() && *usable {
                 let run = Run { train, shift };
                 found |= self.fill_run(work, layer, arrivals, run, reached);
             }

@@ -2,8 +2,11 @@
 //
 //     places: 1, 4, 7             the places with a label in the layer that is being filled, in their order
 //     touched: block 0, ..        the blocks of the table in which one is written
+//     latest: place 4 -> 1, ..    the last layer with a label at the place: it is the cheapest one there
 ghost use Rattle.std.specs.Prelude.{◌≡◌, ◌*◌, ◌<◌, ◌≤◌, length, take};
 ghost use Rattle.search.specs.Notes.{no_notes, for_next_layer, with_note};
+
+use crate::layer::Layer;
 
 // How many records are one block.
 pub const BLOCK: usize = 64;
@@ -13,6 +16,7 @@ pub struct Notes {
     pub places: [u16; 12288],
     pub count: usize,
     pub touched: [bool; 3072],
+    pub latest: [Option<u8>; 12288],
 }
 
 impl Notes {
@@ -23,6 +27,7 @@ impl Notes {
             places: [0; 12288],
             count: 0,
             touched: [false; 3072],
+            latest: [None; 12288],
         }
     }
 
@@ -35,15 +40,16 @@ impl Notes {
     }
 
     // Notes that a label is written at the place of the layer, in that record of the table.
-    pub fn add(&mut self, place: usize, at: usize)
+    pub fn add(&mut self, layer: Layer, place: usize, at: usize)
         requires room { self.old.count < 12288 }
         requires placed { place < 12288 }
         requires inside { at < 64 * 3072 }
-        ensures { self.new ≡ with_note self.old place at }
+        ensures { self.new ≡ with_note self.old layer.number place at }
     {
         self.places[self.count] = place as u16;
         self.count += 1;
         self.touched[at / BLOCK] = true;
+        self.latest[place] = Some(layer.number as u8);
     }
 
     // Begins the next layer.

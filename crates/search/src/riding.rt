@@ -1,5 +1,5 @@
 // Riding a run from stop to stop, and the labels of who is on board.
-ghost use Rattle.std.specs.Prelude.{◌≡◌, ◌+◌, ◌-◌, ◌*◌, ◌<◌, ◌≤◌, true, length, slice_set};
+ghost use Rattle.std.specs.Prelude.{◌≡◌, ◌+◌, ◌*◌, ◌<◌, ◌≤◌, true, length, None, slice_index_or, slice_set};
 ghost use Rattle.book.specs.Answers.{train_row};
 ghost use Rattle.connection.specs.Choosing.{mapped, cheaper as cheaper_of};
 ghost use Rattle.connection.specs.Prices.{hop as hop_of, stand as stand_of};
@@ -7,7 +7,7 @@ ghost use Rattle.connection.specs.Settled.{extended, no_dearer};
 ghost use Rattle.search.specs.Chains.{LinkedBefore};
 ghost use Rattle.search.specs.Ends.{ends_no_dearer, known_total, is_end, end_here};
 ghost use Rattle.search.specs.Layers.{Fills, RunAsked, BlankFrom, run_begins, run_ends};
-ghost use Rattle.search.specs.Notes.{Noted, noted};
+ghost use Rattle.search.specs.Notes.{Decides, Noted, noted};
 ghost use Rattle.search.specs.Records.{record_of};
 ghost use Rattle.search.specs.Working.{layer_at, label_at as label_of_record, costs_no_more, hopeless, beaten, if_promising, if_worth_following, HasLayers};
 
@@ -39,7 +39,7 @@ impl<P: Tariff> Inquiry<'_, P> {
         requires within { HasLayers (length self.now.stops.now) work.old (layer.number + 1) }
         requires linked { LinkedBefore (P.Tariff.meaning self.now.tariff.now) self.now.stops.now work.old layer.number arrivals.now reached.old.end }
         requires in_force { run.train < length self.now.trains.now }
-        requires noted { Noted (length self.now.stops.now) layer.number (run_begins self.now.trains.now (length self.now.stops.now) run.train run.shift) work.old reached.old.notes }
+        requires noted { Noted (P.Tariff.meaning self.now.tariff.now) (length self.now.stops.now) work.old layer.number (run_begins self.now.trains.now (length self.now.stops.now) run.train run.shift) reached.old.notes }
         requires blank { BlankFrom (layer_at (length self.now.stops.now) layer.number + run_begins self.now.trains.now (length self.now.stops.now) run.train run.shift) work.old }
         ensures { Fills (P.Tariff.meaning self.now.tariff.now) self.now.query.now self.now.trains.now self.now.stops.now layer.number (RunAsked self.now.query.now (train_row run.train self.now.trains.now) run.shift true) work.old work.new (run_begins self.now.trains.now (length self.now.stops.now) run.train run.shift) (run_ends self.now.trains.now (length self.now.stops.now) run.train run.shift) result reached.old reached.new }
     {
@@ -50,7 +50,7 @@ impl<P: Tariff> Inquiry<'_, P> {
         let mut found = false;
         let mut aboard = None;
         for (i, stop) in stops.iter().enumerate() {
-            aboard = self.if_worth_following(work, layer, place + i, reached.end, aboard);
+            aboard = self.if_worth_following(work, layer, place + i, reached, aboard);
             self.keep(work, layer, place + i, stop, aboard, reached);
             found |= aboard.is_some();
             if let Some(next) = stops.get(i + 1) {
@@ -78,13 +78,13 @@ impl<P: Tariff> Inquiry<'_, P> {
         requires blank { BlankFrom (layer_at (length self.now.stops.now) layer.number + place) work.old }
         ensures work { work.new ≡ slice_set work.old (layer_at (length self.now.stops.now) layer.number + place) (record_of label) }
         ensures end { reached.new.end ≡ cheaper_of (ends_no_dearer (P.Tariff.meaning self.now.tariff.now)) reached.old.end (end_here (is_end stop.now self.now.query.now.destination) layer.number place label) }
-        ensures notes { reached.new.notes ≡ noted reached.old.notes place (layer_at (length self.now.stops.now) layer.number + place) label }
+        ensures notes { reached.new.notes ≡ noted reached.old.notes layer.number place (layer_at (length self.now.stops.now) layer.number + place) label }
     {
         if let Some(label) = label {
             let at = self.layer_at(layer) + place;
             put_label(work, at, label);
             reached.end = self.with_label(reached.end, stop, layer, place, label);
-            reached.notes.add(place, at);
+            reached.notes.add(layer, place, at);
         }
     }
 
@@ -113,16 +113,21 @@ impl<P: Tariff> Inquiry<'_, P> {
         work: &[WorkRecord<P::Total>],
         layer: Layer,
         place: usize,
-        known: Option<End<P::Total>>,
+        reached: &Reached<P::Total>,
         label: Option<Label<P::Total>>,
     ) -> Option<Label<P::Total>>
         requires within { HasLayers (length self.now.stops.now) work.now layer.number }
         requires placed { place < 3 * length self.now.stops.now }
-        ensures { result ≡ if_worth_following (P.Tariff.meaning self.now.tariff.now) (length self.now.stops.now) work.now place (known_total known) layer.number label }
+        requires latest { Decides (P.Tariff.meaning self.now.tariff.now) (length self.now.stops.now) work.now layer.number place (slice_index_or reached.now.notes.latest place None) }
+        requires long { length reached.now.notes.latest ≡ 12288 }
+        ensures { result ≡ if_worth_following (P.Tariff.meaning self.now.tariff.now) (length self.now.stops.now) work.now place (known_total reached.now.end) layer.number label }
     {
         // no `filter`: nothing is known of what its closure answers by the labels of a table
         let new = label?;
-        if self.is_hopeless(known, new.total) || self.is_beaten(work, layer, place, new.total) {
+        let latest = reached.notes.latest[place];
+        if self.is_hopeless(reached.end, new.total)
+            || self.is_beaten(work, layer, place, latest, new.total)
+        {
             return None;
         }
         label
@@ -150,19 +155,24 @@ impl<P: Tariff> Inquiry<'_, P> {
         known.is_some_and(|end| self.tariff.at_most(end.total, total))
     }
 
-    // Whether a label with fewer changes at the place is no dearer.
+    // Whether a label with fewer changes at the place is no dearer. The latest one, if there is one, is the cheapest.
     fn is_beaten(
         &self,
         work: &[WorkRecord<P::Total>],
         layer: Layer,
         place: usize,
+        latest: Option<u8>,
         total: P::Total,
     ) -> bool
         requires within { HasLayers (length self.now.stops.now) work.now layer.number }
         requires placed { place < 3 * length self.now.stops.now }
+        requires latest { Decides (P.Tariff.meaning self.now.tariff.now) (length self.now.stops.now) work.now layer.number place latest }
         ensures { result ≡ beaten (P.Tariff.meaning self.now.tariff.now) (length self.now.stops.now) work.now place layer.number total }
     {
-        (0..layer.number).any(|before| self.costs_no_more(work, before, place, total))
+        let Some(before) = latest else {
+            return false;
+        };
+        self.costs_no_more(work, before as usize, place, total)
     }
 
     // Whether the label at the place of that layer is there, and is no dearer.
@@ -176,7 +186,6 @@ impl<P: Tariff> Inquiry<'_, P> {
         requires within { layer_at (length self.now.stops.now) layer + place < length work.now }
         ensures { result ≡ costs_no_more (P.Tariff.meaning self.now.tariff.now) (label_of_record work.now (layer_at (length self.now.stops.now) layer + place)) total }
     {
-        // by the number of a layer alone, as no closure over numbers knows how far they go
         let label = label_at(work, layer * (3 * self.stops.len()) + place);
         label.is_some_and(|l| self.tariff.at_most(l.total, total))
     }

@@ -1,4 +1,5 @@
-use Rattle.std.proofs.Common.{◌≡◌, ℕ, ◌+◌, ◌*◌, ◌<◌, true, false, ◌&&◌, length, None, Option, IfSome, sym, refl, ap, ◌∙◌, subst, add_assoc, arith}
+use Rattle.std.proofs.Common.{◌≡◌, ℕ, ◌+◌, ◌*◌, ◌<◌, true, false, ◌&&◌, length, get_or, None, Option, IfSome, sym, refl, ap, ◌∙◌, subst, add_assoc, arith}
+use Rattle.std.proofs.lemmas.List.{get_or_default}
 use Rattle.book.specs.Rules.{stop_at}
 use Rattle.connection.specs.Choosing.{mapped, only_when}
 use Rattle.connection.specs.Clock.{midnight}
@@ -6,11 +7,11 @@ use Rattle.connection.specs.Rides.{can_catch, may_alight, arrival}
 use Rattle.connection.specs.Settled.{no_dearer}
 use Rattle.connection.specs.Ways.{Best}
 use Rattle.connection.specs.declared.label.Label.{Label}
-use Rattle.search.specs.Chains.{behind, ArrivesAt, promising}
+use Rattle.search.specs.Chains.{never, behind, ArrivesAt, promising}
 use Rattle.search.specs.Changing.{changed}
 use Rattle.search.specs.Ends.{known_total}
 use Rattle.search.specs.Working.{number, place, layer_at, part_at, label_at, label_in}
-use Rattle.search.proofs.BestChange.{ChangesFrom, arrives_here, arrives_labelled, changes_start, changes_next, changes_all}
+use Rattle.search.proofs.BestChange.{ChangesFrom, no_changes, arrives_here, arrives_labelled, changes_start, changes_next, changes_all}
 use Rattle.search.proofs.Chosen.{cheaper_none}
 use Rattle.search.proofs.PromisingLabels.{promising_is}
 use Rattle.search.proofs.RowsAreTrains.{place_below}
@@ -26,6 +27,29 @@ loop-next-init g c =
     let stops = a.self.now.stops.now in
     let link = c.requires.linked.first o.station c.requires.known in
     (changes_start (g.P.Tariff.meaning t) (laws.connex t) (laws.transitive t) stops (promising (g.P.Tariff.meaning t) (length stops) (known_total a.arrivals.now.known) a.work.now a.layer.number) o.station o.minute o.board _ link, link.arrives)
+
+pub returns-then-onward-arrivals : goal.returns-then-onward-arrivals
+returns-then-onward-arrivals g c =
+    let a = c.args in
+    let o = a.onward in
+    let m = g.P.Tariff.meaning a.self.now.tariff.now in
+    let stops = a.self.now.stops.now in
+    let label = promising m (length stops) (known_total a.arrivals.now.known) a.work.now a.layer.number in
+    let soon : o.minute < get_or a.arrivals.now.earliest o.station never = omega (arith, c.if-onward-arrivals.true, get_or_default a.arrivals.now.earliest o.station 0 never (omega (arith, c.requires.linked.long_earliest, c.requires.known))) in
+    record { best = no_changes m stops label a.arrivals.now o.station o.minute o.board c.requires.linked soon }
+
+pub loop-next-smaller : goal.loop-next-smaller
+loop-next-smaller g c =
+    let a = c.args in
+    let m = g.P.Tariff.meaning a.self.now.tariff.now in
+    let stops = a.self.now.stops.now in
+    let size = length stops in
+    let label = promising m size (known_total a.arrivals.now.known) a.work.now a.layer.number in
+    let is = c.shift_and_row-shift.ensures.is in
+    let inside = c.shift_and_row-shift.ensures.inside in
+    let here = subst (λ (n : Option ℕ). IfSome n (ArrivesAt stops label a.onward.station)) c.in-Some.is c.loop-next.invariant.1 in
+    let far : c.in-Some.place < 3 * size = omega (arith, is, place_below c.shift_and_row-shift.result.0 size c.shift_and_row-shift.result.1 inside) in
+    omega (arith, (c.requires.linked.next a.onward.station c.in-Some.place far here).ahead, ap behind c.in-Some.is)
 
 pub loop-next-preserved : goal.loop-next-preserved
 loop-next-preserved g c =

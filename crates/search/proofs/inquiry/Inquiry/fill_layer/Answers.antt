@@ -27,7 +27,7 @@ fill_shift-found-requires-clause-noted g c =
     let l = c.loop-shift in
     let at = ap (λ k. k * size) (number_of_shift l.shift-index DayBefore c.loop-shift-test.true) in
     let here : l.shift-index * size ≡ place size (get_or (DayBefore ∷ SameDay ∷ DayAfter ∷ []) l.shift-index DayBefore) 0 = omega (arith, at) in
-    subst (λ (x : ℕ). Noted size a.layer.number x l.work l.reached.notes) here (l.invariant.noted c.requires.noted)
+    subst (λ (x : ℕ). Noted (g.P.Tariff.meaning a.self.now.tariff.now) size l.work a.layer.number x l.reached.notes) here (l.invariant.noted c.requires.noted)
 
 pub fill_shift-found-requires-clause-blank : goal.fill_shift-found-requires-clause-blank
 fill_shift-found-requires-clause-blank g c =

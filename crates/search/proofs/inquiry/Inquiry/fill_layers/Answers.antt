@@ -11,7 +11,7 @@ use Rattle.search.proofs.BlankRecords.{blank_less}
 use Rattle.search.proofs.FillingLayers.{filled_layer, known_layer, blank_layer}
 use Rattle.search.proofs.KnownEnds.{none_known}
 use Rattle.search.proofs.Layering.{layers_below}
-use Rattle.search.proofs.NotedLabels.{noted_none, noted_next}
+use Rattle.search.proofs.NotedLabels.{noted_first, noted_next}
 use Rattle.search.proofs.inquiry.Inquiry.fill_layers.Goals as goal
 
 pub loop-number-init : goal.loop-number-init
@@ -24,7 +24,7 @@ loop-number-init g c =
       known = none_known (g.P.Tariff.meaning t) (laws.connex t) (laws.transitive t) s.stops.now c.args.work.now s.query.now.destination;
       filled = λ runs asked k n sh i lk ln li. absurd (omega arith);
       linked = record { chained = λ h. absurd (omega arith); no_dearer = λ total h. absurd (subst (λ (e : Option (End _)). Hopeless (g.P.Tariff.meaning t) (known_total e) total) (ap (λ (a : Arrivals _). a.known) c.none-arrivals.ensures) h) };
-      noted = subst (Noted (length s.stops.now) 0 0 c.args.work.now) (sym c.none.ensures) (noted_none (length s.stops.now) c.args.work.now c.requires.blank);
+      noted = subst (Noted (g.P.Tariff.meaning t) (length s.stops.now) c.args.work.now 0 0) (sym c.none.ensures) (noted_first (g.P.Tariff.meaning t) (length s.stops.now) c.args.work.now (omega (arith, s.ordered.few_stops)) c.requires.blank);
       long = ap (λ (a : Arrivals _). length a.nexts) c.none-arrivals.ensures ∙ length-replicate {A = Option ℕ} 12288 None;
     }
 
@@ -33,6 +33,15 @@ fill_layer-requires-clause-within g c =
     let q = c.args.self.now.query.now in
     let l = c.loop-number in
     omega (arith, layers_below (length c.args.self.now.stops.now) (l.number + 1) (q.changes + 1) (omega arith), c.requires.within)
+
+pub arrive-requires-clause-within : goal.arrive-requires-clause-within
+arrive-requires-clause-within g c =
+    let q = c.args.self.now.query.now in
+    let l = c.loop-number in
+    omega (arith, layers_below (length c.args.self.now.stops.now) (l.number + 1) (q.changes + 1) (omega arith), c.requires.within, c.fill_layer.auto.work, l.auto.work)
+
+pub arrive-requires-clause-listed : goal.arrive-requires-clause-listed
+arrive-requires-clause-listed g c = (c.fill_layer.ensures.noted c.loop-number.invariant.noted).listed
 
 pub returns-then-not-fill_layer : goal.returns-then-not-fill_layer
 returns-then-not-fill_layer g c =
@@ -70,7 +79,7 @@ loop-number-preserved g c =
         chained = λ h. subst (λ (k : ℕ). Chained s.stops.now (promising m size (known_total arrivals.known) work k) (3 * size) arrivals) next chained;
         no_dearer = λ total h. subst (λ (e : Option (End _)). Hopeless m (known_total e) total) known h;
       };
-      noted = subst (Noted size (l.number + 1) 0 work) (sym c.begin_layer.ensures) (noted_next size l.number (3 * size) work c.fill_layer.new.reached.notes (c.fill_layer.ensures.noted l.invariant.noted));
+      noted = subst (Noted m size work (l.number + 1) 0) (sym c.begin_layer.ensures) (noted_next m size l.number work c.fill_layer.new.reached.notes (c.fill_layer.ensures.noted l.invariant.noted));
       long = c.arrive.ensures.chained.long_nexts;
     }
 

@@ -14,6 +14,6 @@ invariant-loop-number g l =
       known : Known l.self.stops.now l.work l.self.query.now.destination (layer_at (length l.self.stops.now) l.number) (g.P.Tariff.meaning l.self.tariff.now) l.reached.end;
       filled : (runs : Pairs) → Asked l.self.query.now l.self.trains.now l.usable runs → Filled (g.P.Tariff.meaning l.self.tariff.now) runs l.self.query.now l.self.trains.now l.self.stops.now (known_total l.reached.end) l.work l.number;
       linked : LinkedBefore (g.P.Tariff.meaning l.self.tariff.now) l.self.stops.now l.work l.number l.arrivals l.reached.end;
-      noted : Noted (length l.self.stops.now) l.number 0 l.work l.reached.notes;
+      noted : Noted (g.P.Tariff.meaning l.self.tariff.now) (length l.self.stops.now) l.work l.number 0 l.reached.notes;
       long : length l.arrivals.nexts ≡ 12288;
     }

@@ -14,7 +14,7 @@ use Rattle.search.proofs.Basis.{Basis, timetable_of}
 use Rattle.search.proofs.BlankRecords.{blank_less}
 use Rattle.search.proofs.FillingRuns.{FilledTo, filled_none, filled_more, comes_next, fills_run}
 use Rattle.search.proofs.Layering.{record_below, few_records}
-use Rattle.search.proofs.RowsAreTrains.{fits, own_count, own_stop}
+use Rattle.search.proofs.RowsAreTrains.{fits, own_count, own_stop, place_below}
 use Rattle.search.proofs.Unchanged.{linked_same}
 use Rattle.search.proofs.WrittenRecords.{unchanged_still}
 use Rattle.search.proofs.inquiry.Inquiry.fill_run.Goals as goal
@@ -52,6 +52,20 @@ boarding-boarded-requires-clause-linked g c later =
     let end = a.reached.now.end in
     (linked_same (g.P.Tariff.meaning s.tariff.now) s.stops.now a.layer.number a.work.now c.keep.new.work a.arrivals.now end end (λ z h. unchanged z (omega arith)) (λ t h. h) c.requires.linked).chained later
 
+pub if_worth_following-aboard-requires-clause-latest : goal.if_worth_following-aboard-requires-clause-latest
+if_worth_following-aboard-requires-clause-latest g c =
+    let a = c.args in
+    let s = a.self.now in
+    let size = length s.stops.now in
+    let n = a.run.train in
+    let l = c.loop-i in
+    let row = row_of s.trains.now n l.i in
+    let long : length c.stops-stops.result.now ≡ (train_row n s.trains.now).count = ap length c.stops-stops.ensures ∙ own_count s.trains.now s.stops.now s.ordered n c.requires.in_force in
+    let inside : row < size = omega (arith, fits s.trains.now s.stops.now s.ordered n c.requires.in_force, c.loop-i-test.true, long) in
+    let spot = ap (λ x. x + l.i) c.place-place.ensures ∙ add_assoc (number a.run.shift * size) (train_row n s.trains.now).first l.i in
+    let far : c.place-place.result + l.i < 3 * size = omega (arith, spot, place_below a.run.shift size row inside) in
+    (l.invariant.noted c.requires.noted).latest.behind (c.place-place.result + l.i) (omega (arith, c.place-place.ensures)) far
+
 pub keep-requires-clause-blank : goal.keep-requires-clause-blank
 keep-requires-clause-blank g c =
     let a = c.args in
@@ -85,7 +99,7 @@ loop-i-preserved g c =
     let known = c.keep.ensures.end ∙ ap₂ ends stop_is spot in
     let kept = c.if_worth_following-aboard.ensures ∙ ap (λ x. if_worth_following m size l.work x (known_total l.reached.end) layer l.aboard) spot in
     let at : layer_at (length s.stops.now) a.layer.number + (c.place-place.result + l.i) ≡ part_at (length s.stops.now) a.layer.number a.run.shift + row.first + l.i = omega (arith, c.place-place.ensures) in
-    let notes = c.keep.ensures.notes ∙ ap₂ (λ (x y : ℕ). noted l.reached.notes x y c.if_worth_following-aboard.result) spot at in
+    let notes = c.keep.ensures.notes ∙ ap₂ (λ (x y : ℕ). noted l.reached.notes layer x y c.if_worth_following-aboard.result) spot at in
     let next = c.keep.ensures.work ∙ ap (λ x. set l.work x (record_of c.if_worth_following-aboard.result)) at in
     filled_more m s.query.now s.trains.now s.stops.now layer n a.run.shift a.reached.now basis c.requires.in_force a.work.now l.work l.i l.found l.aboard c.if_worth_following-aboard.result l.reached c.keep.new.reached l.invariant li room few kept c.keep.new.work next known notes (l.found || c.is_some-found.result) c.match-get.aboard (ap (λ b. l.found || b) c.is_some-found.ensures)
     (elim c.match-get.branch [

@@ -1,4 +1,4 @@
-use Rattle.std.proofs.Common.{ℕ, ◌+◌, ◌-◌, false, length, sym, ap, ◌∙◌, subst, add-one, arith}
+use Rattle.std.proofs.Common.{ℕ, ◌+◌, ◌-◌, false, length, get_or, sym, ap, ◌∙◌, subst, add-one, arith}
 use Rattle.std.proofs.Math.Bool.{or-false}
 use Rattle.std.proofs.lemmas.List.{length-take-le, get_or-take}
 use Rattle.book.specs.Answers.{train_row}
@@ -11,7 +11,7 @@ use Rattle.search.proofs.IdleRuns.{fills_unused, fills_out_of_reach}
 use Rattle.search.proofs.RowsAreTrains.{first_first, next_first, last_ends, none_none}
 use Rattle.search.proofs.Unchanged.{linked_same}
 use Rattle.search.proofs.inquiry.Inquiry.fill_shift.Goals as goal
-use Rattle.search.proofs.inquiry.Inquiry.fill_shift.Goals.{then-usable+then-missed_by-train, else-usable, else-usable-via-then-usable+else-missed_by-train, else-usable-via-else-usable}
+use Rattle.search.proofs.inquiry.Inquiry.fill_shift.Goals.{then-missed_by-train+then-usable, else-missed_by-train, else-missed_by-train-via-then-missed_by-train+else-usable, else-missed_by-train-via-else-missed_by-train}
 
 pub loop-train-init : goal.loop-train-init
 loop-train-init g c =
@@ -33,7 +33,7 @@ fill_run-found-requires-clause-noted g c =
     let l = c.loop-train in
     let long = length-take-le (length s.trains.now) a.usable.now c.requires.each in
     let here = l.invariant.2 (omega arith) in
-    subst (λ (r : ℕ). Noted size a.layer.number (place size a.shift r) l.work l.reached.notes) (sym here) (l.invariant.1.noted c.requires.noted)
+    subst (λ (r : ℕ). Noted (g.P.Tariff.meaning s.tariff.now) size l.work a.layer.number (place size a.shift r) l.reached.notes) (sym here) (l.invariant.1.noted c.requires.noted)
 
 pub fill_run-found-requires-clause-blank : goal.fill_run-found-requires-clause-blank
 fill_run-found-requires-clause-blank g c =
@@ -64,21 +64,21 @@ loop-train-preserved g c =
     let blank = subst (λ (r : ℕ). BlankFrom (layer_at size a.layer.number + place size a.shift r) l.work) (sym here) (l.invariant.1.blank c.requires.blank) in
     let linked = linked_same m s.stops.now a.layer.number a.work.now l.work a.arrivals.now a.reached.now.end l.reached.end (λ z h. l.invariant.1.unchanged z (omega arith)) l.invariant.1.no_dearer c.requires.linked in (
       train.first + train.count,
-      elim c.if-usable.branch [
-        | then-usable+then-missed_by-train w ↦
+      elim c.if-missed_by-train.branch [
+        | then-missed_by-train+then-usable w ↦
             rw (w.work-is, w.reached-is, w.found-is)
             (fills_then s.ordered before w.fill_run-found.ensures (λ runs may. sym w.if-usable.true ∙ asked ∙ may l.train (omega arith)) (omega arith))
-        | else-usable w ↦
-            elim w.else-usable.branch [
-              | else-usable-via-then-usable+else-missed_by-train w' ↦
-                  let none = c.requires.out_of_reach l.train (omega arith) (omega (arith, w'.if-missed_by-train.false, w'.midnight.ensures)) in
-                  let idle = fills_out_of_reach m s.query.now s.trains.now s.stops.now basis a.layer.number l.train a.shift (omega arith) l.work l.reached blank a.arrivals.now linked none in
-                  rw (w.work-is, w.reached-is, w.found-is ∙ sym (or-false l.found))
-                  (fills_then s.ordered before idle (λ runs may. sym w'.if-usable.true ∙ asked ∙ may l.train (omega arith)) (omega arith))
-              | else-usable-via-else-usable w' ↦
+        | else-missed_by-train w ↦
+            elim w.else-missed_by-train.branch [
+              | else-missed_by-train-via-then-missed_by-train+else-usable w' ↦
                   let idle = fills_unused m s.query.now s.trains.now s.stops.now basis a.layer.number l.train a.shift (omega arith) l.work l.reached blank in
                   rw (w.work-is, w.reached-is, w.found-is ∙ sym (or-false l.found))
                   (fills_then s.ordered before idle (λ runs may. sym w'.if-usable.false ∙ asked ∙ may l.train (omega arith)) (omega arith))
+              | else-missed_by-train-via-else-missed_by-train w' ↦
+                  let gone = c.requires.out_of_reach l.train (omega arith) (omega (arith, w'.if-missed_by-train.false, c.midnight.ensures)) in
+                  let idle = fills_out_of_reach m s.query.now s.trains.now s.stops.now basis a.layer.number l.train a.shift (omega arith) l.work l.reached blank (get_or a.usable.now l.train false) a.arrivals.now linked gone in
+                  rw (w.work-is, w.reached-is, w.found-is ∙ sym (or-false l.found))
+                  (fills_then s.ordered before idle (λ runs may. may l.train (omega arith)) (omega arith))
             ]
       ],
       λ h. ap (λ n. (train_row n s.trains.now).first) (add-one l.train) ∙ next_first s.trains.now s.stops.now s.ordered l.train (omega arith),

@@ -20,5 +20,5 @@ returns-in_default g c =
     record {
       work = blank_kept at a.work.now c.requires.blank ∙ ap (λ o. set a.work.now at (record_of o)) none;
       end = cheaper_none (ends_no_dearer m) a.reached.now.end ∙ ap (cheaper (ends_no_dearer m) a.reached.now.end) (sym (no_end_here b a.layer.number a.place) ∙ ap (end_here b a.layer.number a.place) none);
-      notes = ap (noted a.reached.now.notes a.place at) none;
+      notes = ap (noted a.reached.now.notes a.layer.number a.place at) none;
     }
