@@ -57,8 +57,17 @@ fn blank_touched<T: Copy>(work: &mut [WorkRecord<T>], notes: &Notes)
     for (block, touched) in notes.touched.iter().enumerate() {
         if *touched {
             let end = size.min((block + 1) * BLOCK);
-            blank_all(&mut work[end.min(block * BLOCK)..end]);
+            blank_block(&mut work[end.min(block * BLOCK)..end]);
         }
+    }
+}
+
+// Blanks the records of a block. Many have been written, so it does not look at each first.
+fn blank_block<T: Copy>(work: &mut [WorkRecord<T>])
+    ensures { work.new ≡ replicate (length work.old) blank }
+{
+    for record in work.iter_mut() {
+        *record = WorkRecord::blank();
     }
 }
 

@@ -18,7 +18,7 @@ loop-block-preserved g c =
           let k = e - a in
           let room : a + k ≤ length l.work = omega (arith, w.min.ensures, w.min-end.ensures, l.auto.work) in
           let long : length (take k (drop a l.work)) ≡ k = length-take-le k (drop a l.work) (omega (arith, length-drop a l.work)) in
-          let now = w.work-is ∙ ap (put_mid a k l.work) (w.blank_all.ensures ∙ ap (λ n. replicate n blank) long) in
+          let now = w.work-is ∙ ap (put_mid a k l.work) (w.blank_block.ensures ∙ ap (λ n. replicate n blank) long) in
           let still = λ (z : ℕ) (was : get_or l.work z blank ≡ blank). ap (λ t. get_or t z blank) now ∙ still_blank a k l.work room z was in
           (λ z h. elim (cases_lt (z / 64) l.block) [
             | inl b ↦ still z (l.invariant.0 z b)
