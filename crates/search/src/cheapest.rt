@@ -10,7 +10,6 @@ ghost use Rattle.search.specs.Working.{HasLayers};
 use crate::inquiry::Inquiry;
 use crate::layer::Layer;
 use crate::notes::{BLOCK, Notes};
-use crate::reached::Reached;
 use crate::record::WorkRecord;
 use crate::refusal::Refusal;
 use calendar::Calendar;
@@ -34,7 +33,8 @@ impl<P: Tariff> Inquiry<'_, P> {
         ensures work { work.new ≡ replicate (length work.old) blank }
     {
         let usable = self.usable(calendar);
-        let Reached { end, notes } = self.fill_layers(work, &usable);
+        let reached = self.fill_layers(work, &usable);
+        let end = reached.end;
         let found = match end {
             Some(end) => {
                 let layer = Layer { number: end.layer };
@@ -43,7 +43,7 @@ impl<P: Tariff> Inquiry<'_, P> {
             }
             None => Err(Refusal::NoConnection),
         };
-        blank_touched(work, &notes);
+        blank_touched(work, &reached.notes);
         found
     }
 }
