@@ -15,7 +15,7 @@ use Rattle.connection.specs.declared.ride.Ride.{Ride}
 use Rattle.connection.specs.declared.ride.Shift.{Shift}
 use Rattle.search.specs.Changing.{Timely}
 use Rattle.search.specs.Ends.{known_total, Known, NoDearer}
-use Rattle.search.specs.Notes.{BlankElsewhere, Noted}
+use Rattle.search.specs.Notes.{no_notes, BlankElsewhere, Noted}
 use Rattle.search.specs.Records.{blank}
 use Rattle.search.specs.Working.{may_use, place, layer_at, label_in}
 use Rattle.search.specs.Shifts.{on}
@@ -69,6 +69,10 @@ module _ {A : Type 0} (m : Meaning A) (runs : Pairs) (q : Query) (rows : List Tr
       → Holds known table k n s i (label_in (length stops) table k s (row_of rows n i))
 
 -- ---- how a layer is filled
+-- nothing is reached ahead of the first
+abbrev pub nothing_reached : {A : Type 0} → Reached A
+nothing_reached = record { end = None; notes = no_notes }
+
 module _ {A : Type 0} where
   -- the records ahead of the place b are as they were
   abbrev pub UnchangedBelow : ℕ → List (WorkRecord A) → List (WorkRecord A) → Type 0

@@ -10,6 +10,7 @@ ghost use Rattle.search.specs.Working.{HasLayers};
 use crate::inquiry::Inquiry;
 use crate::layer::Layer;
 use crate::notes::{BLOCK, Notes};
+use crate::reached::Reached;
 use crate::record::WorkRecord;
 use crate::refusal::Refusal;
 use calendar::Calendar;
@@ -33,7 +34,11 @@ impl<P: Tariff> Inquiry<'_, P> {
         ensures work { work.new ≡ replicate (length work.old) blank }
     {
         let usable = self.usable(calendar);
-        let reached = self.fill_layers(work, &usable);
+        let mut reached = Reached {
+            end: None,
+            notes: Notes::none(),
+        };
+        self.fill_layers(work, &usable, &mut reached);
         let end = reached.end;
         let found = match end {
             Some(end) => {

@@ -1,8 +1,8 @@
 // The layers of labels, one for each number of changes.
-ghost use Rattle.std.specs.Prelude.{ℕ, ◌+◌, ◌*◌, ◌<◌, ◌≤◌, length, slice_index_or};
+ghost use Rattle.std.specs.Prelude.{◌≡◌, ℕ, ◌+◌, ◌*◌, ◌<◌, ◌≤◌, length, slice_index_or};
 ghost use Rattle.connection.specs.Clock.{midnight};
 ghost use Rattle.search.specs.Chains.{LinkedBefore, OutOfReach};
-ghost use Rattle.search.specs.Layers.{Fills, ShiftAsked, Asked, AllFilled, BlankFrom};
+ghost use Rattle.search.specs.Layers.{nothing_reached, Fills, ShiftAsked, Asked, AllFilled, BlankFrom};
 ghost use Rattle.search.specs.Notes.{Noted};
 ghost use Rattle.search.specs.Working.{place, layer_at, HasLayers};
 
@@ -10,7 +10,6 @@ use crate::asking::Usable;
 use crate::chains::Arrivals;
 use crate::inquiry::Inquiry;
 use crate::layer::Layer;
-use crate::notes::Notes;
 use crate::reached::Reached;
 use crate::record::WorkRecord;
 use crate::run::Run;
@@ -26,25 +25,22 @@ impl<P: Tariff> Inquiry<'_, P> {
         &self,
         work: &mut [WorkRecord<P::Total>],
         usable: &Usable,
-    ) -> Reached<P::Total>
+        reached: &mut Reached<P::Total>,
+    )
         requires within { HasLayers (length self.now.stops.now) work.old (self.now.query.now.changes + 1) }
         requires blank { BlankFrom 0 work.old }
-        ensures filled { AllFilled (P.Tariff.meaning self.now.tariff.now) self.now.query.now self.now.trains.now self.now.stops.now (Asked self.now.query.now self.now.trains.now usable.now) work.new result }
+        requires nothing { reached.old ≡ nothing_reached }
+        ensures filled { AllFilled (P.Tariff.meaning self.now.tariff.now) self.now.query.now self.now.trains.now self.now.stops.now (Asked self.now.query.now self.now.trains.now usable.now) work.new reached.new }
     {
         let mut arrivals = Arrivals::none();
-        let mut reached = Reached {
-            end: None,
-            notes: Notes::none(),
-        };
         for number in 0..self.query.changes as usize + 1 {
             let layer = Layer { number };
-            if !self.fill_layer(work, layer, &arrivals, usable, &mut reached) {
-                return reached;
+            if !self.fill_layer(work, layer, &arrivals, usable, reached) {
+                return;
             }
-            self.arrive(work, layer, &reached, &mut arrivals);
+            self.arrive(work, layer, reached, &mut arrivals);
             reached.notes.begin_layer();
         }
-        reached
     }
 
     // Writes the labels of a layer, and what is reached by them. Where it says no, there is no label.

@@ -1,4 +1,4 @@
-use Rattle.std.proofs.Common.{◌+◌, ◌≤◌, length, replicate, refl, ap, ◌∙◌, arith}
+use Rattle.std.proofs.Common.{◌+◌, ◌≤◌, length, replicate, None, refl, ap, ◌∙◌, arith}
 use Rattle.search.specs.Layers.{Asked}
 use Rattle.search.specs.Records.{blank}
 use Rattle.search.specs.Working.{layer_at}
@@ -15,9 +15,12 @@ invariant_of-layer g c =
     let t = s.tariff.now in
     let laws = g.met.P.Tariff in
     let basis : Basis (g.P.Tariff.meaning t) s.trains.now s.stops.now = record { connex = laws.connex t; transitive = laws.transitive t; grows = laws.grows t; keeps = laws.keeps t; starts = laws.starts t; counts = laws.counts t; timetable = timetable_of s } in
-    let filled = c.fill_layers-reached.ensures.filled in
+    let filled = c.fill_layers.ensures.filled in
     let known = searched _ (g.C.Calendar.runs c.args.calendar.now) s.query.now s.trains.now s.stops.now _ _ _ basis filled c.usable-usable.ensures in
     record { shallow = omega (arith, end_layer known c.in-Some.end c.in-Some.is, filled.few, s.askable.changes) }
+
+pub fill_layers-requires-clause-nothing : goal.fill_layers-requires-clause-nothing
+fill_layers-requires-clause-nothing g c = ap (λ n. record { end = None; notes = n }) c.none.ensures
 
 pub write_rides-requires : goal.write_rides-requires
 write_rides-requires g c =
@@ -25,7 +28,7 @@ write_rides-requires g c =
     let t = s.tariff.now in
     let laws = g.met.P.Tariff in
     let basis : Basis (g.P.Tariff.meaning t) s.trains.now s.stops.now = record { connex = laws.connex t; transitive = laws.transitive t; grows = laws.grows t; keeps = laws.keeps t; starts = laws.starts t; counts = laws.counts t; timetable = timetable_of s } in
-    let filled = c.fill_layers-reached.ensures.filled in
+    let filled = c.fill_layers.ensures.filled in
     let known = searched _ (g.C.Calendar.runs c.args.calendar.now) s.query.now s.trains.now s.stops.now _ _ _ basis filled c.usable-usable.ensures in
     let e = c.in-Some.end in
     let it = c.in-Some.is in
@@ -34,7 +37,7 @@ write_rides-requires g c =
     record { within = omega (arith, more); room = omega (arith, filled.few); told = (whole known e it, whole_told known e it) }
 
 pub blank_touched-requires : goal.blank_touched-requires
-blank_touched-requires g c = record { elsewhere = c.fill_layers-reached.ensures.filled.elsewhere }
+blank_touched-requires g c = record { elsewhere = c.fill_layers.ensures.filled.elsewhere }
 
 pub returns : goal.returns
 returns g c =
@@ -43,9 +46,9 @@ returns g c =
     let t = s.tariff.now in
     let laws = g.met.P.Tariff in
     let basis : Basis (g.P.Tariff.meaning t) s.trains.now s.stops.now = record { connex = laws.connex t; transitive = laws.transitive t; grows = laws.grows t; keeps = laws.keeps t; starts = laws.starts t; counts = laws.counts t; timetable = timetable_of s } in
-    let filled = c.fill_layers-reached.ensures.filled in
+    let filled = c.fill_layers.ensures.filled in
     let known = searched _ (g.C.Calendar.runs a.calendar.now) s.query.now s.trains.now s.stops.now _ _ _ basis filled c.usable-usable.ensures in
-    let blanked = c.blank_touched.ensures ∙ ap (λ k. replicate k blank) c.fill_layers-reached.auto.work in
+    let blanked = c.blank_touched.ensures ∙ ap (λ k. replicate k blank) c.fill_layers.auto.work in
     elim c.match-end.branch [
       | in-Some w ↦
           let e = w.in-Some.end in

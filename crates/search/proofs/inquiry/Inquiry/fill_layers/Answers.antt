@@ -2,11 +2,12 @@ use Rattle.std.proofs.Common.{◌≡◌, ℕ, ◌+◌, ◌-◌, ◌*◌, List, l
 use Rattle.std.proofs.lemmas.List.{length-replicate}
 use Rattle.connection.specs.Settled.{Hopeless}
 use Rattle.search.specs.Chains.{Chained, promising}
-use Rattle.search.specs.Ends.{known_total}
+use Rattle.search.specs.Ends.{known_total, Known}
 use Rattle.search.specs.Notes.{Noted}
 use Rattle.search.specs.Working.{layer_at}
 use Rattle.search.specs.declared.chains.Arrivals.{Arrivals}
 use Rattle.search.specs.declared.ends.End.{End}
+use Rattle.search.specs.declared.reached.Reached.{Reached}
 use Rattle.search.proofs.BlankRecords.{blank_less}
 use Rattle.search.proofs.FillingLayers.{filled_layer, known_layer, blank_layer}
 use Rattle.search.proofs.KnownEnds.{none_known}
@@ -21,10 +22,10 @@ loop-number-init g c =
     let laws = g.met.P.Tariff in
     record {
       blank = blank_less 0 (layer_at (length s.stops.now) 0) c.args.work.now (omega arith) c.requires.blank;
-      known = none_known (g.P.Tariff.meaning t) (laws.connex t) (laws.transitive t) s.stops.now c.args.work.now s.query.now.destination;
+      known = subst (λ (r : Reached _). Known s.stops.now c.args.work.now s.query.now.destination (layer_at (length s.stops.now) 0) (g.P.Tariff.meaning t) r.end) (sym c.requires.nothing) (none_known (g.P.Tariff.meaning t) (laws.connex t) (laws.transitive t) s.stops.now c.args.work.now s.query.now.destination);
       filled = λ runs asked k n sh i lk ln li. absurd (omega arith);
       linked = record { chained = λ h. absurd (omega arith); no_dearer = λ total h. absurd (subst (λ (e : Option (End _)). Hopeless (g.P.Tariff.meaning t) (known_total e) total) (ap (λ (a : Arrivals _). a.known) c.none-arrivals.ensures) h) };
-      noted = subst (Noted (g.P.Tariff.meaning t) (length s.stops.now) c.args.work.now 0 0) (sym c.none.ensures) (noted_first (g.P.Tariff.meaning t) (length s.stops.now) c.args.work.now (omega (arith, s.ordered.few_stops)) c.requires.blank);
+      noted = subst (λ (r : Reached _). Noted (g.P.Tariff.meaning t) (length s.stops.now) c.args.work.now 0 0 r.notes) (sym c.requires.nothing) (noted_first (g.P.Tariff.meaning t) (length s.stops.now) c.args.work.now (omega (arith, s.ordered.few_stops)) c.requires.blank);
       long = ap (λ (a : Arrivals _). length a.nexts) c.none-arrivals.ensures ∙ length-replicate {A = Option ℕ} 12288 None;
     }
 
