@@ -1,5 +1,5 @@
 -- The best change of a chain is the best change at its station.
-use Rattle.std.proofs.Common.{◌≡◌, ℕ, suc, ◌+◌, ◌*◌, ◌<◌, ◌≤◌, Bool, true, false, ◌&&◌, ◌||◌, T, List, length, get_or, is_some, Some, None, Option, sym, refl, ap, ap₂, ◌∙◌, subst, inl, inr, leb→le, arith}
+use Rattle.std.proofs.Common.{◌≡◌, ℕ, suc, ◌+◌, ◌*◌, ◌<◌, ◌≤◌, Bool, true, false, cond, ◌&&◌, ◌||◌, T, List, length, get_or, is_some, Some, None, Option, sym, refl, ap, ap₂, ◌∙◌, subst, inl, inr, leb→le, arith}
 use Rattle.std.proofs.lemmas.Bool.{cases_lt}
 use Rattle.std.proofs.lemmas.Option.{same_Some}
 use Rattle.tariff.specs.Laws.{Connex, Transitive}
@@ -14,8 +14,8 @@ use Rattle.connection.specs.Ways.{Either, Best}
 use Rattle.connection.specs.declared.label.Label.{Label}
 use Rattle.connection.specs.declared.ride.Shift.{Shift}
 use Rattle.connection.proofs.Best.{refl_from, best_same, best_cheaper}
-use Rattle.connection.proofs.Tests.{both_left, both_right, both_from}
-use Rattle.search.specs.Chains.{never, ArrivesAt, Link, Chained, behind}
+use Rattle.connection.proofs.Tests.{both_left, both_right, both_from, is_true}
+use Rattle.search.specs.Chains.{never, comes, ArrivesAt, Link, Chained, behind}
 use Rattle.search.specs.Changing.{changed, ChangesAt, Changes}
 use Rattle.search.specs.Working.{place}
 use Rattle.search.specs.declared.chains.Arrivals.{Arrivals}
@@ -25,6 +25,22 @@ use Rattle.search.proofs.RowsAreTrains.{place_below, same_place}
 -- who catches a train has come by the time that it leaves
 came_by : (arrived leaving : ℕ) → T (can_catch arrived leaving) → arrived ≤ leaving
 came_by arrived leaving h = leb→le arrived leaving h
+
+-- where one may alight, that is when one comes
+pub comes_in : (stop : StopRow) (s : Shift) → T (may_alight stop) → comes stop s ≡ arrival stop + midnight s
+comes_in stop s off = ap (λ b. cond b (arrival stop + midnight s) never) (is_true (may_alight stop) off)
+
+-- so to catch a train by that minute is to alight and to catch it
+pub comes_and_catches : (stop : StopRow) (s : Shift) (until : ℕ) → until < never → can_catch (comes stop s) until ≡ (may_alight stop && can_catch (arrival stop + midnight s) until)
+comes_and_catches stop s until sometime = go (may_alight stop)
+  where
+    go : (b : Bool) → can_catch (cond b (arrival stop + midnight s) never) until ≡ (b && can_catch (arrival stop + midnight s) until)
+    go true = refl
+    go false = nobody (can_catch never until) refl
+      where
+        nobody : (b : Bool) → can_catch never until ≡ b → b ≡ false
+        nobody true e = absurd (omega (arith, came_by never until (subst T (sym e) tt)))
+        nobody false e = refl
 
 -- what the labels of the places from b on make
 abbrev pub ChangesFrom : {A : Type 0} (m : Meaning A) (stops : List StopRow) (label : Shift → ℕ → Option (Label A)) (station until board b : ℕ) → Label A → Type 0
@@ -53,7 +69,7 @@ module _ {A : Type 0} (m : Meaning A) (connex : Connex m) (transitive : Transiti
     test = may_alight (stop_at stops row) && can_catch (arrival (stop_at stops row) + midnight s) until
 
     abbrev pub made : Label A → Label A
-    made = changed m (stop_at stops row) s until board (place (length stops) s row)
+    made = changed m (arrival (stop_at stops row) + midnight s) until board (place (length stops) s row)
 
     one_change : (b : Bool) → test ≡ b → (o : Option (Label A)) → label s row ≡ o → Best (no_dearer m) (At s row) (only_when b (mapped made o))
     one_change false e o f =
@@ -107,16 +123,4 @@ no_changes m stops label arrivals station until board chained soon l c =
     let there = c.1.1 in
     let who : ArrivesAt stops label station (place (length stops) c.0 c.1.0) = record { shift = c.0; row = c.1.0; inside = there.inside; is = refl; here = there.here; labelled = ap is_some there.held } in
     let came = chained.not_before station (place (length stops) c.0 c.1.0) (place_below c.0 (length stops) c.1.0 there.inside) who in
-    absurd (omega (arith, came, came_by (arrival (stop_at stops c.1.0) + midnight c.0) until there.in_time))
-
--- the station of a place is that of the row that it stands for
-pub arrives_here : {A : Type 0} (stops : List StopRow) (label : Shift → ℕ → Option (Label A)) (station x : ℕ) (s : Shift) (row : ℕ) → ArrivesAt stops label station x → row < length stops → x ≡ place (length stops) s row → (stop_at stops row).station ≡ station
-arrives_here stops label station x s row a inside is =
-    let e = same_place s a.shift (length stops) row a.row inside a.inside (sym is ∙ a.is) in
-    ap (λ r. (stop_at stops r).station) e.1 ∙ a.here
-
--- and its label that of the row
-pub arrives_labelled : {A : Type 0} (stops : List StopRow) (label : Shift → ℕ → Option (Label A)) (station x : ℕ) (s : Shift) (row : ℕ) → ArrivesAt stops label station x → row < length stops → x ≡ place (length stops) s row → is_some (label s row) ≡ true
-arrives_labelled stops label station x s row a inside is =
-    let e = same_place s a.shift (length stops) row a.row inside a.inside (sym is ∙ a.is) in
-    ap₂ (λ t r. is_some (label t r)) e.0 e.1 ∙ a.labelled
+    absurd (omega (arith, came, comes_in (stop_at stops c.1.0) c.0 there.off, came_by (arrival (stop_at stops c.1.0) + midnight c.0) until there.in_time))

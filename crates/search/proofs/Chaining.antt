@@ -4,11 +4,9 @@ use Rattle.std.proofs.lemmas.List.{length-set, length-replicate, get_or-replicat
 use Rattle.std.proofs.lemmas.Bool.{cases_lt}
 use Rattle.book.specs.Rules.{stop_at}
 use Rattle.book.specs.declared.rows.StopRow.{StopRow}
-use Rattle.connection.specs.Clock.{midnight}
-use Rattle.connection.specs.Rides.{arrival}
 use Rattle.connection.specs.declared.label.Label.{Label}
 use Rattle.connection.specs.declared.ride.Shift.{Shift}
-use Rattle.search.specs.Chains.{never, cleared, with_arrival, arrived, ArrivesAt, Link, Chained}
+use Rattle.search.specs.Chains.{never, comes, cleared, with_arrival, arrived, ArrivesAt, Link, Chained}
 use Rattle.search.specs.Working.{place}
 use Rattle.search.specs.declared.chains.Arrivals.{Arrivals}
 use Rattle.search.specs.declared.ends.End.{End}
@@ -24,16 +22,18 @@ no_label (Some a) s e = let z : ◌≡◌ {A = ℕ} 0 1 = cc in absurd (omega ar
 
 module _ {A : Type 0} (stops : List StopRow) where
   -- ---- no place is taken yet
-  pub chained_none : (label : Shift → ℕ → Option (Label A)) (c : Arrivals A) (known : Option (End A)) → length c.nexts ≡ 12288 → Chained stops label 0 (cleared c known)
-  chained_none label c known long =
+  pub chained_none : (label : Shift → ℕ → Option (Label A)) (c : Arrivals A) (known : Option (End A)) → length c.nexts ≡ 12288 → length c.minutes ≡ 12288 → Chained stops label 0 (cleared c known)
+  chained_none label c known long long_minutes =
       record {
         long_heads = length-replicate {A = Option ℕ} 1024 None;
         long_nexts = long;
         first = λ station h.
             subst (Link stops label station 0) (sym (get_or-replicate 1024 station None None (omega arith)))
             (record { ahead = omega arith; passed_over = λ s row i a b e. absurd (omega arith); arrives = tt });
+        long_minutes = long_minutes;
         long_earliest = length-replicate 1024 never;
         next = λ station x h a. absurd (omega arith);
+        minute = λ station x h w. absurd (omega arith);
         not_before = λ station x h w. absurd (omega arith);
       }
 
@@ -62,9 +62,11 @@ module _ {A : Type 0} (stops : List StopRow) where
         record {
           long_heads = h.long_heads;
           long_nexts = h.long_nexts;
+          long_minutes = h.long_minutes;
           long_earliest = h.long_earliest;
           first = λ station known. link_same station a (get_or c.heads station None) (omega arith) (h.first station known);
           next = λ station x l w. link_same station x (get_or c.nexts x None) (omega arith) (h.next station x l (arrives_back station x l w));
+          minute = λ station x l w. h.minute station x l (arrives_back station x l w);
           not_before = λ station x l w. h.not_before station x l (arrives_back station x l w);
         }
 
@@ -83,9 +85,11 @@ module _ {A : Type 0} (stops : List StopRow) where
         record {
           long_heads = w.long_heads;
           long_nexts = w.long_nexts;
+          long_minutes = w.long_minutes;
           long_earliest = w.long_earliest;
           first = λ station known. link_on station a b (get_or c.heads station None) h (λ s row i lo hi e. none s row i lo hi) (w.first station known);
           next = λ station x l r. w.next station x (before station x l r (cases_lt x a)) r;
+          minute = λ station x l r. w.minute station x (before station x l r (cases_lt x a)) r;
           not_before = λ station x l r. w.not_before station x (before station x l r (cases_lt x a)) r;
         }
       where
@@ -94,7 +98,7 @@ module _ {A : Type 0} (stops : List StopRow) where
         before station x l r (inr g) = no_label (label r.shift r.row) r.labelled (none r.shift r.row r.inside (omega (arith, r.is)) (omega (arith, r.is)))
 
     -- ---- one more place
-    module _ (s : Shift) (row : ℕ) (inside : row < length stops) (few : length stops ≤ 4096) (known : (stop_at stops row).station ≤ 1023) (c : Arrivals A) (minute : ℕ) (minute_is : minute ≡ arrival (stop_at stops row) + midnight s) (so_far : Chained stops label (place (length stops) s row) c) where
+    module _ (s : Shift) (row : ℕ) (inside : row < length stops) (few : length stops ≤ 4096) (known : (stop_at stops row).station ≤ 1023) (c : Arrivals A) (minute : ℕ) (minute_is : minute ≡ comes (stop_at stops row) s) (so_far : Chained stops label (place (length stops) s row) c) where
       abbrev at : ℕ
       at = place (length stops) s row
 
@@ -151,16 +155,24 @@ module _ {A : Type 0} (stops : List StopRow) where
             (subst (λ (y : ℕ). Link stops label y at (get_or c'.nexts at None)) st_is
             (subst (Link stops label station at) (sym (get_or-set_same c.nexts at (get_or c.heads station None) None w)) (so_far.first station known)))
 
+        minute_at : (st x : ℕ) → x < at + 1 → (r : ArrivesAt stops label st x) → ((x < at) ⊎ (at ≤ x)) → get_or c'.minutes x 0 ≡ comes (stop_at stops r.row) r.shift
+        minute_at st x l r (inl g) = let ne : x ≢ at = omega arith in get_or-set_other c.minutes at x minute 0 ne ∙ so_far.minute st x g r
+        minute_at st x l r (inr g) =
+            let e : at ≡ x = omega arith in
+            let w : at < length c.minutes = omega (arith, so_far.long_minutes, place_below s (length stops) row inside) in
+            let who = only r.shift r.row r.inside (omega (arith, r.is)) (omega (arith, r.is)) in
+            ap (λ y. get_or c'.minutes y 0) (sym e) ∙ get_or-set_same c.minutes at minute 0 w ∙ minute_is ∙ ap₂ (λ j t. comes (stop_at stops j) t) who.1 who.0
+
         abbrev soonest : ℕ
         soonest = min (get_or c.earliest station never) minute
 
-        not_before_else : (st x : ℕ) → x < at + 1 → (r : ArrivesAt stops label st x) → ((x < at) ⊎ (at ≤ x)) → st ≢ station → get_or c'.earliest st never ≤ arrival (stop_at stops r.row) + midnight r.shift
+        not_before_else : (st x : ℕ) → x < at + 1 → (r : ArrivesAt stops label st x) → ((x < at) ⊎ (at ≤ x)) → st ≢ station → get_or c'.earliest st never ≤ comes (stop_at stops r.row) r.shift
         not_before_else st x l r (inl g) ne = omega (arith, so_far.not_before st x g r, get_or-set_other c.earliest station st soonest never ne)
         not_before_else st x l r (inr g) ne =
             let who = only r.shift r.row r.inside (omega (arith, r.is)) (omega (arith, r.is)) in
             absurd (ne (sym (ap (λ i. (stop_at stops i).station) who.1 ∙ r.here)))
 
-        not_before_at : (st x : ℕ) → x < at + 1 → (r : ArrivesAt stops label st x) → ((x < at) ⊎ (at ≤ x)) → ((st < station) ⊎ (station ≤ st)) → ((station < st) ⊎ (st ≤ station)) → get_or c'.earliest st never ≤ arrival (stop_at stops r.row) + midnight r.shift
+        not_before_at : (st x : ℕ) → x < at + 1 → (r : ArrivesAt stops label st x) → ((x < at) ⊎ (at ≤ x)) → ((st < station) ⊎ (station ≤ st)) → ((station < st) ⊎ (st ≤ station)) → get_or c'.earliest st never ≤ comes (stop_at stops r.row) r.shift
         not_before_at st x l r (inl g) (inr a) (inr b) =
             let e : station ≡ st = omega arith in
             let w : station < length c.earliest = omega (arith, so_far.long_earliest) in
@@ -173,7 +185,7 @@ module _ {A : Type 0} (stops : List StopRow) where
             let w : station < length c.earliest = omega (arith, so_far.long_earliest) in
             let who = only r.shift r.row r.inside (omega (arith, r.is)) (omega (arith, r.is)) in
             let now : get_or c'.earliest st never ≡ soonest = ap (λ y. get_or c'.earliest y never) (sym e) ∙ get_or-set_same c.earliest station soonest never w in
-            let when_is : minute ≡ arrival (stop_at stops r.row) + midnight r.shift = minute_is ∙ ap₂ (λ j t. arrival (stop_at stops j) + midnight t) who.1 who.0 in
+            let when_is : minute ≡ comes (stop_at stops r.row) r.shift = minute_is ∙ ap₂ (λ j t. comes (stop_at stops j) t) who.1 who.0 in
             omega (arith, now, when_is)
         not_before_at st x l r p (inl a) q = not_before_else st x l r p (omega arith)
         not_before_at st x l r p (inr a) (inl b) = not_before_else st x l r p (omega arith)
@@ -185,7 +197,9 @@ module _ {A : Type 0} (stops : List StopRow) where
               long_nexts = length-set c.nexts at (get_or c.heads station None) ∙ so_far.long_nexts;
               first = λ st h. first_at st h (cases_lt st station) (cases_lt station st);
               long_earliest = length-set c.earliest station (min (get_or c.earliest station never) minute) ∙ so_far.long_earliest;
+              long_minutes = length-set c.minutes at minute ∙ so_far.long_minutes;
               next = λ st x l r. next_at st x l r (cases_lt x at);
+              minute = λ st x l r. minute_at st x l r (cases_lt x at);
               not_before = λ st x l r. not_before_at st x l r (cases_lt x at) (cases_lt st station) (cases_lt station st);
             }
 

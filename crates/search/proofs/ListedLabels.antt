@@ -3,11 +3,9 @@ use Rattle.std.proofs.Common.{◌≡◌, ℕ, suc, ◌+◌, ◌*◌, ◌<◌, �
 use Rattle.tariff.specs.Meaning.{Meaning}
 use Rattle.book.specs.Rules.{stop_at}
 use Rattle.book.specs.declared.rows.StopRow.{StopRow}
-use Rattle.connection.specs.Clock.{midnight}
-use Rattle.connection.specs.Rides.{arrival}
 use Rattle.connection.specs.declared.label.Label.{Label}
 use Rattle.connection.specs.declared.ride.Shift.{Shift}
-use Rattle.search.specs.Chains.{arrived, Chained, promising}
+use Rattle.search.specs.Chains.{comes, arrived, Chained, promising}
 use Rattle.search.specs.Notes.{past, up_to, Listed}
 use Rattle.search.specs.Working.{number, place, layer_at, label_at, if_promising}
 use Rattle.search.specs.declared.chains.Arrivals.{Arrivals}
@@ -29,7 +27,7 @@ module _ {A : Type 0} (m : Meaning A) (stops : List StopRow) (k : ℕ) (known : 
       chained_over stops label (past n j) (up_to n (3 * size) j) c (listed.rising j lj)
       (λ s row inside low high. ap (if_promising m known) (ap (label_at table) (add_assoc (layer_at size k) (number s * size) row) ∙ listed.none_between j (place size s row) lj low high)) h
 
-  pub chained_next : (few : size ≤ 4096) (j : ℕ) → j < n.count → (s : Shift) (row : ℕ) → row < size → get_or n.places j 0 ≡ place size s row → (stop_at stops row).station ≤ 1023 → (minute : ℕ) → minute ≡ arrival (stop_at stops row) + midnight s → (c : Arrivals A) → Chained stops label (past n j) c → Chained stops label (past n (j + 1)) (arrived c (stop_at stops row).station minute (place size s row) (label s row))
+  pub chained_next : (few : size ≤ 4096) (j : ℕ) → j < n.count → (s : Shift) (row : ℕ) → row < size → get_or n.places j 0 ≡ place size s row → (stop_at stops row).station ≤ 1023 → (minute : ℕ) → minute ≡ comes (stop_at stops row) s → (c : Arrivals A) → Chained stops label (past n j) c → Chained stops label (past n (j + 1)) (arrived c (stop_at stops row).station minute (place size s row) (label s row))
   chained_next few j lj s row inside is station minute when c h =
       let here = subst (λ (x : ℕ). Chained stops label x c) (next_is n (3 * size) j lj ∙ is) (to_next j (omega arith) c h) in
       let more = chained_more stops label s row inside few station c minute when here (label s row) refl in

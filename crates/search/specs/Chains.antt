@@ -7,7 +7,7 @@ use Rattle.book.specs.Rules.{stop_at}
 use Rattle.book.specs.declared.rows.StopRow.{StopRow}
 use Rattle.book.specs.declared.rows.TrainRow.{TrainRow}
 use Rattle.connection.specs.Clock.{midnight, ready}
-use Rattle.connection.specs.Rides.{may_board, arrival, departure}
+use Rattle.connection.specs.Rides.{may_board, may_alight, arrival, departure}
 use Rattle.connection.specs.declared.label.Label.{Label}
 use Rattle.connection.specs.declared.query.Query.{Query}
 use Rattle.connection.specs.declared.ride.Shift.{Shift}
@@ -22,13 +22,17 @@ use Rattle.search.specs.declared.record.WorkRecord.{WorkRecord}
 abbrev pub never : ℕ
 never = 65535
 
+-- the minute at which who is on board the run of that shift comes to the stop, if one may alight there
+abbrev pub comes : StopRow → Shift → ℕ
+comes stop s = cond (may_alight stop) (arrival stop + midnight s) never
+
 -- nobody has arrived anywhere
 abbrev pub no_arrivals : {A : Type 0} → Arrivals A
-no_arrivals = record { heads = replicate 1024 None; nexts = replicate 12288 None; earliest = replicate 1024 never; known = None }
+no_arrivals = record { heads = replicate 1024 None; nexts = replicate 12288 None; minutes = replicate 12288 0; earliest = replicate 1024 never; known = None }
 
 -- the chains of a new layer: what comes next counts only behind a first place
 abbrev pub cleared : {A : Type 0} → Arrivals A → Option (End A) → Arrivals A
-cleared a known = record { heads = replicate 1024 None; nexts = a.nexts; earliest = replicate 1024 never; known = known }
+cleared a known = record { heads = replicate 1024 None; nexts = a.nexts; minutes = a.minutes; earliest = replicate 1024 never; known = known }
 
 -- the place becomes the first of the station, where it comes at the minute
 abbrev pub with_arrival : {A : Type 0} → Arrivals A → (station minute x : ℕ) → Arrivals A
@@ -36,6 +40,7 @@ with_arrival a station minute x =
     record {
       heads = slice_set a.heads station (Some x);
       nexts = slice_set a.nexts x (slice_index_or a.heads station None);
+      minutes = slice_set a.minutes x minute;
       earliest = slice_set a.earliest station (min (slice_index_or a.earliest station never) minute);
       known = a.known;
     }
@@ -71,10 +76,12 @@ module _ {A : Type 0} (stops : List StopRow) (label : Shift → ℕ → Option (
   pub record Chained (a : ℕ) (arrivals : Arrivals A) : Type 0 where
     pub long_heads : length arrivals.heads ≡ 1024
     pub long_nexts : length arrivals.nexts ≡ 12288
+    pub long_minutes : length arrivals.minutes ≡ 12288
     pub long_earliest : length arrivals.earliest ≡ 1024
     pub first : (station : ℕ) → station ≤ last_station → Link station a (slice_index_or arrivals.heads station None)
     pub next : (station x : ℕ) → x < a → ArrivesAt station x → Link station x (slice_index_or arrivals.nexts x None)
-    pub not_before : (station x : ℕ) → x < a → (w : ArrivesAt station x) → slice_index_or arrivals.earliest station never ≤ arrival (stop_at stops w.row) + midnight w.shift
+    pub minute : (station x : ℕ) → x < a → (w : ArrivesAt station x) → slice_index_or arrivals.minutes x 0 ≡ comes (stop_at stops w.row) w.shift
+    pub not_before : (station x : ℕ) → x < a → (w : ArrivesAt station x) → slice_index_or arrivals.earliest station never ≤ comes (stop_at stops w.row) w.shift
 
 -- ---- which runs can be boarded
 -- the minute from which on one is at the station after so many changes: at the start at the origin, later where somebody has come

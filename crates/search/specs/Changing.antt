@@ -1,5 +1,5 @@
 -- The labels that a change can make, from the labels of one layer.
-use Rattle.std.specs.Prelude.{◌≡◌, ℕ, ◌+◌, ◌-◌, ◌<◌, ◌≤◌, T, List, length, Some, Option}
+use Rattle.std.specs.Prelude.{◌≡◌, ℕ, ◌+◌, ◌-◌, ◌<◌, ◌≤◌, Bool, false, T, List, length, Some, None, Option}
 use Rattle.tariff.specs.Meaning.{Meaning}
 use Rattle.tariff.specs.declared.step.Kind.TheVariants.{Change}
 use Rattle.book.specs.Limits.{last_minute, last_station}
@@ -20,10 +20,15 @@ pub record Timely (stops : List StopRow) : Type 0 where
   pub stations : (j : ℕ) → j < length stops → (stop_at stops j).station ≤ last_station
 
 module _ {A : Type 0} (m : Meaning A) where
-  -- who comes with the run of that shift to the stop, and waits there until the minute
-  abbrev pub changed : StopRow → Shift → (until board from : ℕ) → Label A → Label A
-  changed stop s until board from l =
-      record { total = with m l.total (stretch Change (until - (arrival stop + midnight s)) 0); board = board; from = from }
+  -- who came at the one minute, and waits until the other
+  abbrev pub changed : (came until board from : ℕ) → Label A → Label A
+  changed came until board from l = record { total = with m l.total (stretch Change (until - came) 0); board = board; from = from }
+
+  -- both are there, and the first costs no more
+  abbrev pub both_and_no_dearer : Option (Label A) → Option (Label A) → Bool
+  both_and_no_dearer (Some a) (Some b) = m.at_most a.total b.total
+  both_and_no_dearer (Some a) None = false
+  both_and_no_dearer None o = false
 
   module _ (stops : List StopRow) (label : Shift → ℕ → Option (Label A)) (station until board : ℕ) where
     -- l is what a change from the label at the row makes
@@ -34,7 +39,7 @@ module _ {A : Type 0} (m : Meaning A) where
       pub in_time : T (can_catch (arrival (stop_at stops row) + midnight s) until)
       pub before : Label A
       pub held : label s row ≡ Some before
-      pub is : l ≡ changed (stop_at stops row) s until board (place (length stops) s row) before
+      pub is : l ≡ changed (arrival (stop_at stops row) + midnight s) until board (place (length stops) s row) before
 
     abbrev pub ChangesOn : Shift → Label A → Type 0
     ChangesOn s l = (row : ℕ) × ChangesAt s row l

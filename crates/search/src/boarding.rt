@@ -6,18 +6,18 @@ ghost use Rattle.book.specs.Limits.{last_station};
 ghost use Rattle.book.specs.Rules.{stop_at};
 ghost use Rattle.book.specs.Trains.{trains_in};
 ghost use Rattle.calendar.specs.Pairs.{Pairs};
-ghost use Rattle.connection.specs.Choosing.{mapped, only_when};
+ghost use Rattle.connection.specs.Choosing.{mapped, only_when, cheaper as cheaper_of};
 ghost use Rattle.connection.specs.Clock.{midnight, ready as ready_at};
 ghost use Rattle.connection.specs.Labels.{with};
 ghost use Rattle.connection.specs.Prices.{stretch};
 ghost use Rattle.connection.specs.Rides.{arrival, departure, may_alight, can_catch};
 ghost use Rattle.connection.specs.Settled.{no_dearer, SettlesBoarding};
 ghost use Rattle.connection.specs.Ways.{Best};
-ghost use Rattle.search.specs.Changing.{changed, Changes};
-ghost use Rattle.search.specs.Chains.{Chained, promising};
+ghost use Rattle.search.specs.Changing.{changed, both_and_no_dearer, Changes};
+ghost use Rattle.search.specs.Chains.{never, Chained, promising};
 ghost use Rattle.search.specs.Ends.{known_total, NoDearer};
 ghost use Rattle.search.specs.Layers.{Trail, Filled, RunAsked};
-ghost use Rattle.search.specs.Working.{place as place_of, HasLayers};
+ghost use Rattle.search.specs.Working.{HasLayers};
 ghost use Rattle.search.specs.declared.ends.End.{End};
 
 use crate::chains::Arrivals;
@@ -28,7 +28,7 @@ use crate::minutes::wait;
 use crate::record::WorkRecord;
 use crate::run::{Onward, Run};
 use crate::table::label_at;
-use connection::allowed::{can_catch, may_alight, may_board};
+use connection::allowed::{can_catch, may_board};
 use connection::label::Label;
 use connection::ride::Shift;
 use tariff::Tariff;
@@ -97,6 +97,7 @@ impl<P: Tariff> Inquiry<'_, P> {
     ) -> Option<Label<P::Total>>
         requires within { HasLayers (length self.now.stops.now) work.now (layer.number + 1) }
         requires known { onward.station ≤ last_station }
+        requires sometime { onward.minute < never }
         requires linked { Chained self.now.stops.now (promising (P.Tariff.meaning self.now.tariff.now) (length self.now.stops.now) (known_total arrivals.now.known) work.now layer.number) (3 * length self.now.stops.now) arrivals.now }
         ensures best { Best (no_dearer (P.Tariff.meaning self.now.tariff.now)) (Changes (P.Tariff.meaning self.now.tariff.now) self.now.stops.now (promising (P.Tariff.meaning self.now.tariff.now) (length self.now.stops.now) (known_total arrivals.now.known) work.now layer.number) onward.station onward.minute onward.board) result }
     {
@@ -107,39 +108,59 @@ impl<P: Tariff> Inquiry<'_, P> {
         let mut best = None;
         let mut next = arrivals.heads[onward.station as usize];
         while let Some(place) = next {
-            let place = place as usize;
-            let (shift, row) = self.shift_and_row(place);
+            let came = arrivals.minutes[place as usize];
             // the label is read only where one can change, as it lies far off
-            if self.may_change(row, shift, onward) {
-                let label = label_at(work, at + place);
-                best = cheaper(self.tariff, best, self.change(row, shift, label, onward));
+            if can_catch(came, onward.minute) {
+                let label = label_at(work, at + place as usize);
+                best = self.with_change(best, label, came, place, onward);
             }
-            next = arrivals.nexts[place];
+            next = arrivals.nexts[place as usize];
         }
         best
     }
 
-    // Whether who comes to the row with the run of that shift can alight there, and change to what he wants to catch.
-    fn may_change(&self, row: usize, shift: Shift, onward: Onward) -> bool
-        requires inside { row < length self.now.stops.now }
-        ensures { result ≡ (may_alight (stop_at self.now.stops.now row) && can_catch (arrival (stop_at self.now.stops.now row) + midnight shift) onward.minute) }
-    {
-        may_alight(&self.stops[row]) && can_catch(self.reaches(row, shift), onward.minute)
-    }
-
-    // The label of who does so.
-    fn change(
+    // The best so far or the change from the label, of who came at the minute, whichever is cheaper. A change never costs
+    // less than its label.
+    fn with_change(
         &self,
-        row: usize,
-        shift: Shift,
+        best: Option<Label<P::Total>>,
         label: Option<Label<P::Total>>,
+        came: u16,
+        from: u16,
         onward: Onward,
     ) -> Option<Label<P::Total>>
-        requires inside { row < length self.now.stops.now }
-        ensures { result ≡ mapped (changed (P.Tariff.meaning self.now.tariff.now) (stop_at self.now.stops.now row) shift onward.minute onward.board (place_of (length self.now.stops.now) shift row)) label }
+        ensures { result ≡ cheaper_of (no_dearer (P.Tariff.meaning self.now.tariff.now)) best (mapped (changed (P.Tariff.meaning self.now.tariff.now) came onward.minute onward.board from) label) }
     {
-        let step = wait(Kind::Change, self.reaches(row, shift), onward.minute);
-        let from = self.place(shift, row) as u16;
+        if self.costs_at_most(best, label) {
+            return best;
+        }
+        cheaper(self.tariff, best, self.change(label, came, from, onward))
+    }
+
+    // Whether both are there, and the first costs no more.
+    fn costs_at_most(
+        &self,
+        first: Option<Label<P::Total>>,
+        second: Option<Label<P::Total>>,
+    ) -> bool
+        ensures { result ≡ both_and_no_dearer (P.Tariff.meaning self.now.tariff.now) first second }
+    {
+        first
+            .zip(second)
+            .is_some_and(|(a, b)| self.tariff.at_most(a.total, b.total))
+    }
+
+    // The label of who came at the minute, and changes.
+    fn change(
+        &self,
+        label: Option<Label<P::Total>>,
+        came: u16,
+        from: u16,
+        onward: Onward,
+    ) -> Option<Label<P::Total>>
+        ensures { result ≡ mapped (changed (P.Tariff.meaning self.now.tariff.now) came onward.minute onward.board from) label }
+    {
+        let step = wait(Kind::Change, came, onward.minute);
         label.map(|before| Label {
             total: self.tariff.add(before.total, step),
             board: onward.board,

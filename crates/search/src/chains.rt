@@ -2,6 +2,7 @@
 //
 //     heads: station 2 -> place 4, station 3 -> place 7, ..      the last place of the station with a label
 //     nexts: place 4 -> place 1, ..                              the one of the same station ahead of it
+//     minutes: place 4 -> minute 1980, ..                        when who is on board comes to the station
 //     earliest: station 2 -> minute 1930, ..                     when somebody comes there first
 //
 // They are taken from the first place of the layer on, so each becomes the first of its chain.
@@ -11,7 +12,7 @@ ghost use Rattle.search.specs.Chains.{no_arrivals, cleared, with_arrival};
 
 use crate::ends::End;
 
-// No minute: nobody comes.
+// No minute: nobody comes, or may alight.
 pub const NEVER: u16 = u16::MAX;
 
 // In arrays and by the number of a place, since the search allocates nothing.
@@ -19,6 +20,7 @@ pub const NEVER: u16 = u16::MAX;
 pub struct Arrivals<T> {
     pub heads: [Option<u16>; 1024],
     pub nexts: [Option<u16>; 12288],
+    pub minutes: [u16; 12288],
     pub earliest: [u16; 1024],
     // the cheapest end that was known when they were taken: a label that costs as much was left out
     pub known: Option<End<T>>,
@@ -32,6 +34,7 @@ impl<T: Copy> Arrivals<T> {
         Arrivals {
             heads: [None; 1024],
             nexts: [None; 12288],
+            minutes: [0; 12288],
             earliest: [NEVER; 1024],
             known: None,
         }
@@ -46,6 +49,7 @@ impl<T: Copy> Arrivals<T> {
         let station = station as usize;
         self.nexts[place] = self.heads[station];
         self.heads[station] = Some(place as u16);
+        self.minutes[place] = minute;
         self.earliest[station] = self.earliest[station].min(minute);
     }
 

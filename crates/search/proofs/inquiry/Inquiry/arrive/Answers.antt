@@ -16,7 +16,7 @@ loop-place-init g c =
     let s = a.self.now in
     let end = a.reached.now.end in
     let label = promising (g.P.Tariff.meaning s.tariff.now) (length s.stops.now) (known_total end) a.work.now a.layer.number in
-    (ap (λ x. x.known) c.clear.ensures, subst (Chained s.stops.now label 0) (sym c.clear.ensures) (chained_none s.stops.now label a.arrivals.now end c.requires.long))
+    (ap (λ x. x.known) c.clear.ensures, subst (Chained s.stops.now label 0) (sym c.clear.ensures) (chained_none s.stops.now label a.arrivals.now end c.requires.long c.requires.long_minutes))
 
 pub loop-place-preserved : goal.loop-place-preserved
 loop-place-preserved g c =
@@ -39,15 +39,15 @@ loop-place-preserved g c =
           let row = w.shift_and_row-shift.result.1 in
           let is = sym place_is ∙ w.shift_and_row-shift.ensures.is in
           let inside = w.shift_and_row-shift.ensures.inside in
-          let next = chained_next m s.stops.now k known a.work.now notes c.requires.listed s.ordered.few_stops l.place-index lj day row inside is (s.timely.stations row inside) w.reaches.result w.reaches.ensures l.arrivals l.invariant.1 in
+          let next = chained_next m s.stops.now k known a.work.now notes c.requires.listed s.ordered.few_stops l.place-index lj day row inside is (s.timely.stations row inside) w.comes.result w.comes.ensures l.arrivals l.invariant.1 in
           let same : layer_at size k + x ≡ part_at size k day + row = omega (arith, is, add_assoc (layer_at size k) (number day * size) row) in
           let some = ap (λ y. is_some (if_promising m known (label_at a.work.now y))) (sym same) ∙ ap is_some (sym held) ∙ sym w.if-is_some.ensures in
           let station = (stop_at s.stops.now row).station in
           let taken =
           w.arrivals-is
           ∙ w.add.ensures
-          ∙ ap (with_arrival l.arrivals station w.reaches.result) w.shift_and_row-shift.ensures.is
-          ∙ sym (arrived_some l.arrivals station w.reaches.result (place size day row) (if_promising m known (label_in size a.work.now k day row)) some)
+          ∙ ap (with_arrival l.arrivals station w.comes.result) w.shift_and_row-shift.ensures.is
+          ∙ sym (arrived_some l.arrivals station w.comes.result (place size day row) (if_promising m known (label_in size a.work.now k day row)) some)
           in
           (ap (λ y. y.known) (w.arrivals-is ∙ w.add.ensures) ∙ l.invariant.0, subst (Chained s.stops.now (promising m size known a.work.now k) (past notes (l.place-index + 1))) (sym taken) next)
       | else-is_some w ↦

@@ -1,4 +1,4 @@
-use Rattle.std.proofs.Common.{◌≡◌, ℕ, ◌+◌, ◌*◌, ◌<◌, true, false, ◌&&◌, length, get_or, None, Option, IfSome, sym, refl, ap, ◌∙◌, subst, add_assoc, arith}
+use Rattle.std.proofs.Common.{◌≡◌, ℕ, ◌+◌, ◌*◌, ◌<◌, true, false, ◌&&◌, T, length, get_or, None, Option, IfSome, sym, refl, ap, ap₂, ◌∙◌, subst, add_assoc, arith}
 use Rattle.std.proofs.lemmas.List.{get_or_default}
 use Rattle.book.specs.Rules.{stop_at}
 use Rattle.connection.specs.Choosing.{mapped, only_when}
@@ -6,17 +6,18 @@ use Rattle.connection.specs.Clock.{midnight}
 use Rattle.connection.specs.Rides.{can_catch, may_alight, arrival}
 use Rattle.connection.specs.Settled.{no_dearer}
 use Rattle.connection.specs.Ways.{Best}
+use Rattle.connection.proofs.Tests.{both_left}
 use Rattle.connection.specs.declared.label.Label.{Label}
 use Rattle.search.specs.Chains.{never, behind, ArrivesAt, promising}
 use Rattle.search.specs.Changing.{changed}
 use Rattle.search.specs.Ends.{known_total}
 use Rattle.search.specs.Working.{number, place, layer_at, part_at, label_at, label_in}
-use Rattle.search.proofs.BestChange.{ChangesFrom, no_changes, arrives_here, arrives_labelled, changes_start, changes_next, changes_all}
+use Rattle.search.proofs.BestChange.{ChangesFrom, no_changes, comes_in, comes_and_catches, changes_start, changes_next, changes_all}
 use Rattle.search.proofs.Chosen.{cheaper_none}
 use Rattle.search.proofs.PromisingLabels.{promising_is}
 use Rattle.search.proofs.RowsAreTrains.{place_below}
 use Rattle.search.proofs.inquiry.Inquiry.best_change.Goals as goal
-use Rattle.search.proofs.inquiry.Inquiry.best_change.Goals.{then-may_change, else-may_change}
+use Rattle.search.proofs.inquiry.Inquiry.best_change.Goals.{then-can_catch, else-can_catch}
 
 pub loop-next-init : goal.loop-next-init
 loop-next-init g c =
@@ -45,10 +46,8 @@ loop-next-smaller g c =
     let stops = a.self.now.stops.now in
     let size = length stops in
     let label = promising m size (known_total a.arrivals.now.known) a.work.now a.layer.number in
-    let is = c.shift_and_row-shift.ensures.is in
-    let inside = c.shift_and_row-shift.ensures.inside in
     let here = subst (λ (n : Option ℕ). IfSome n (ArrivesAt stops label a.onward.station)) c.in-Some.is c.loop-next.invariant.1 in
-    let far : c.in-Some.place < 3 * size = omega (arith, is, place_below c.shift_and_row-shift.result.0 size c.shift_and_row-shift.result.1 inside) in
+    let far : c.in-Some.place < 3 * size = omega (arith, here.is, place_below here.shift size here.row here.inside) in
     omega (arith, (c.requires.linked.next a.onward.station c.in-Some.place far here).ahead, ap behind c.in-Some.is)
 
 pub loop-next-preserved : goal.loop-next-preserved
@@ -64,31 +63,32 @@ loop-next-preserved g c =
     let label = promising m size known a.work.now a.layer.number in
     let l = c.loop-next in
     let x = c.in-Some.place in
-    let s = c.shift_and_row-shift.result.0 in
-    let row = c.shift_and_row-shift.result.1 in
-    let is = c.shift_and_row-shift.ensures.is in
-    let inside = c.shift_and_row-shift.ensures.inside in
     let so_far = λ (n : Option ℕ). Best (no_dearer m) (ChangesFrom m stops label o.station o.minute o.board (behind n)) l.best × IfSome n (ArrivesAt stops label o.station) in
     let inv = subst so_far c.in-Some.is l.invariant in
-    let far : x < 3 * size = omega (arith, is, place_below s size row inside) in
+    let s = inv.1.shift in
+    let row = inv.1.row in
+    let is = inv.1.is in
+    let far : x < 3 * size = omega (arith, is, place_below s size row inv.1.inside) in
     let link = c.requires.linked.next o.station x far inv.1 in
-    let here = arrives_here stops label o.station x s row inv.1 inside is in
     let at : layer_at size a.layer.number + x ≡ part_at size a.layer.number s + row = omega (arith, is, add_assoc (layer_at size a.layer.number) (number s * size) row) in
     let stop = stop_at stops row in
     let test = may_alight stop && can_catch (arrival stop + midnight s) o.minute in
-    let made = λ (l : Option (Label _)). mapped (changed m stop s o.minute o.board (place size s row)) l in
-    let go = changes_next m (laws.connex t) (laws.transitive t) stops label o.station o.minute o.board s row inside here x is _ link l.best in
-    elim c.if-may_change.branch [
-      | then-may_change w ↦
+    let came = c.requires.linked.minute o.station x far inv.1 in
+    let tested : can_catch (get_or a.arrivals.now.minutes x 0) o.minute ≡ test = ap (λ (y : ℕ). can_catch y o.minute) came ∙ comes_and_catches stop s o.minute c.requires.sometime in
+    let go = changes_next m (laws.connex t) (laws.transitive t) stops label o.station o.minute o.board s row inv.1.inside inv.1.here x is _ link l.best in
+    elim c.if-can_catch.branch [
+      | then-can_catch w ↦
+          let may : test ≡ true = sym tested ∙ sym c.can_catch.ensures ∙ w.if-can_catch.true in
+          let off = both_left (may_alight stop) _ (subst T (sym may) tt) in
           let read = w.label_at-label.ensures ∙ ap (λ (y : ℕ). label_at a.work.now (y + x)) c.layer_at-at.ensures ∙ ap (label_at a.work.now) at in
-          let held = read ∙ promising_is m known (label_in size a.work.now a.layer.number s row) (arrives_labelled stops label o.station x s row inv.1 inside is) in
-          let yes : test ≡ true = sym c.may_change.ensures ∙ w.if-may_change.true in
-          let is_made = w.change.ensures ∙ ap (λ b. only_when b (made w.label_at-label.result)) (sym yes) in
-          (go _ _ c.if-may_change.best held is_made (w.best-is ∙ w.cheaper-best.ensures) inv.0, link.arrives)
-      | else-may_change w ↦
-          let no : test ≡ false = sym c.may_change.ensures ∙ w.if-may_change.false in
-          let is_none = ap (λ b. only_when b (made (label s row))) (sym no) in
-          (go (label s row) None c.if-may_change.best refl is_none (w.best-is ∙ cheaper_none (no_dearer m) l.best) inv.0, link.arrives)
+          let held = read ∙ promising_is m known (label_in size a.work.now a.layer.number s row) inv.1.labelled in
+          let made = λ (y z : ℕ). mapped (changed m y o.minute o.board z) w.label_at-label.result in
+          let is_made = ap₂ made (came ∙ comes_in stop s off) is ∙ ap (λ b. only_when b (made (arrival stop + midnight s) (place size s row))) (sym may) in
+          (go _ _ c.if-can_catch.best held is_made (w.best-is ∙ w.with_change-best.ensures) inv.0, link.arrives)
+      | else-can_catch w ↦
+          let none : test ≡ false = sym tested ∙ sym c.can_catch.ensures ∙ w.if-can_catch.false in
+          let is_none = ap (λ b. only_when b (mapped (changed m (arrival stop + midnight s) o.minute o.board (place size s row)) (label s row))) (sym none) in
+          (go (label s row) None c.if-can_catch.best refl is_none (w.best-is ∙ cheaper_none (no_dearer m) l.best) inv.0, link.arrives)
     ]
 
 pub returns : goal.returns

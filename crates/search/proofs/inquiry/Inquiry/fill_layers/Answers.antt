@@ -27,6 +27,7 @@ loop-number-init g c =
       linked = record { chained = λ h. absurd (omega arith); no_dearer = λ total h. absurd (subst (λ (e : Option (End _)). Hopeless (g.P.Tariff.meaning t) (known_total e) total) (ap (λ (a : Arrivals _). a.known) c.none-arrivals.ensures) h) };
       noted = subst (λ (r : Reached _). Noted (g.P.Tariff.meaning t) (length s.stops.now) c.args.work.now 0 0 r.notes) (sym c.requires.nothing) (noted_first (g.P.Tariff.meaning t) (length s.stops.now) c.args.work.now (omega (arith, s.ordered.few_stops)) c.requires.blank);
       long = ap (λ (a : Arrivals _). length a.nexts) c.none-arrivals.ensures ∙ length-replicate {A = Option ℕ} 12288 None;
+      long_minutes = ap (λ (a : Arrivals _). length a.minutes) c.none-arrivals.ensures ∙ length-replicate {A = ℕ} 12288 0;
     }
 
 pub fill_layer-requires-clause-within : goal.fill_layer-requires-clause-within
@@ -82,6 +83,7 @@ loop-number-preserved g c =
       };
       noted = subst (Noted m size work (l.number + 1) 0) (sym c.begin_layer.ensures) (noted_next m size l.number work c.fill_layer.new.reached.notes (c.fill_layer.ensures.noted l.invariant.noted));
       long = c.arrive.ensures.chained.long_nexts;
+      long_minutes = c.arrive.ensures.chained.long_minutes;
     }
 
 pub returns : goal.returns

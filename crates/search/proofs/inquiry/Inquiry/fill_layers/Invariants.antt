@@ -16,4 +16,5 @@ invariant-loop-number g l =
       linked : LinkedBefore (g.P.Tariff.meaning l.self.tariff.now) l.self.stops.now l.work l.number l.arrivals l.reached.end;
       noted : Noted (g.P.Tariff.meaning l.self.tariff.now) (length l.self.stops.now) l.work l.number 0 l.reached.notes;
       long : length l.arrivals.nexts ≡ 12288;
+      long_minutes : length l.arrivals.minutes ≡ 12288;
     }
