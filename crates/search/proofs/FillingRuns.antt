@@ -1,5 +1,6 @@
 -- The labels of a run, filled in stop by stop, settle its stops.
 use Rattle.std.proofs.Common.{◌≡◌, ℕ, suc, ◌+◌, ◌-◌, ◌*◌, ◌<◌, ◌≤◌, Bool, true, false, cond, ◌||◌, ◌⊎◌, List, length, set, is_some, Some, None, Option, sym, refl, ap, ◌∙◌, subst, ap₂, inl, inr, add_assoc, add-one, arith}
+use Rattle.std.proofs.Math.Bool.{or-false}
 use Rattle.std.proofs.lemmas.Bool.{cases_lt}
 use Rattle.tariff.specs.Meaning.{Meaning}
 use Rattle.book.specs.Answers.{train_row}
@@ -29,9 +30,10 @@ use Rattle.search.specs.declared.reached.Reached.{Reached}
 use Rattle.search.specs.declared.record.WorkRecord.{WorkRecord}
 use Rattle.search.proofs.Basis.{Basis}
 use Rattle.search.proofs.BeatenLabels.{Beater, beater, is_hopeless, worth_not_beaten}
-use Rattle.search.proofs.BlankRecords.{blank_less, blank_behind}
+use Rattle.search.proofs.BlankRecords.{blank_less, blank_behind, blank_kept}
 use Rattle.search.proofs.Chaining.{not_some}
-use Rattle.search.proofs.KnownEnds.{cheaper_no_dearer, known_more}
+use Rattle.search.proofs.Chosen.{cheaper_none}
+use Rattle.search.proofs.KnownEnds.{cheaper_no_dearer, known_more, no_end_here}
 use Rattle.search.proofs.NotedLabels.{noted_written}
 use Rattle.search.proofs.PromisingLabels.{settles_promising}
 use Rattle.search.proofs.RowsAreTrains.{fits, count_is, stop_is, same_row, same_place, place_below}
@@ -218,6 +220,15 @@ module _ {A : Type 0} (m : Meaning A) (q : Query) (rows : List TrainRow) (stops 
           ap₂ (λ (x y : StopRow). mapped (extended m (hop x y)) (cheaper (no_dearer m) boarded (mapped (extended m (stand x)) KeptLabel))) is_stop is_there ∙ sym ea
           in
           subst (λ (j : ℕ). Still runs j aboard') (sym (add-one i)) (subst (Still runs (suc i)) same goes)
+
+    -- ---- a stop at which nobody is on board, and nobody boards
+    pub filled_left : (old new : List (WorkRecord A)) (i : ℕ) (found : Bool) (now : Reached A) → FilledTo old new i found None now → i < count → start + i < length new → start + i < 64 * 3072 → (c : Option (End A)) → NoDearer m c before.end → ((runs : Pairs) (best : Option (End A)) → NoDearer m c best → RunAsked q (train_row n rows) s true runs → Filled m runs q rows stops (known_total best) new layer → SettlesBoarding m trains runs q (Trail rows size new layer) (known_total best) layer n s i None) → FilledTo old new (i + 1) found None now
+    filled_left old new i found now state li room few_records c worse boards =
+        let b = is_end (stop_at stops (row_of rows n i)) q.destination in
+        let same : now.end ≡ cheaper (ends_no_dearer m) now.end (end_here b layer (place size s (row_of rows n i)) None) = cheaper_none (ends_no_dearer m) now.end ∙ ap (cheaper (ends_no_dearer m) now.end) (sym (no_end_here b layer (place size s (row_of rows n i)))) in
+        let kept = blank_kept (start + i) new state.blank in
+        filled_more old new i found None None now now state li room few_records refl new kept same refl found None (sym (or-false found))
+        (λ runs may filled h. comes_next old new i found None None now now state li room few_records refl new kept same refl (stop_at stops (row_of rows n i)) (stop_at stops (row_of rows n (i + 1))) None None None c worse refl refl h boards refl refl runs may filled h)
 
     -- ---- the whole run
     -- a place between the run's first and last is one of its stops

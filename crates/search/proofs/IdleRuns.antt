@@ -31,6 +31,7 @@ use Rattle.search.proofs.BestChange.{no_changes}
 use Rattle.search.proofs.BlankRecords.{blank_less, blank_label}
 use Rattle.search.proofs.FillingRuns.{of_the_run}
 use Rattle.search.proofs.KnownEnds.{known_over}
+use Rattle.search.proofs.LeftStops.{nobody_boards}
 use Rattle.search.proofs.NotedLabels.{noted_over}
 use Rattle.search.proofs.RowsAreTrains.{fits, count_is}
 use Rattle.search.proofs.WaysToBoard.{boards_nothing, boards_first, boards_later}
@@ -84,26 +85,4 @@ module _ {A : Type 0} (m : Meaning A) (q : Query) (rows : List TrainRow) (stops 
     pub fills_out_of_reach : (usable : Bool) (arrivals : Arrivals A) → LinkedBefore m stops table layer arrivals before.end → OutOfReach rows stops layer q arrivals n s → Fills m q rows stops layer (RunAsked q (train_row n rows) s usable) table table (run_begins rows size n s) (run_ends rows size n s) false before before
     fills_out_of_reach usable arrivals linked gone =
         fills (RunAsked q (train_row n rows) s usable)
-        (λ runs may filled i li. nobody runs i li layer linked filled (gone i li) (may_use runs q (train_row n rows) s) refl (may_board (stop_at stops (row_of rows n i))) refl)
-      where
-        too_early : (i : ℕ) (b : Bool) → eqb (stop_at stops (row_of rows n i)).station q.origin ≡ b → departure (stop_at stops (row_of rows n i)) + midnight s < cond b (ready q) never → (eqb (stop_at stops (row_of rows n i)).station q.origin && leb (ready q) (departure (stop_at stops (row_of rows n i)) + midnight s)) ≡ false
-        too_early i true e h = ap (λ b. b && leb (ready q) (departure (stop_at stops (row_of rows n i)) + midnight s)) e ∙ lt-leb (ready q) (departure (stop_at stops (row_of rows n i)) + midnight s) h
-        too_early i false e h = ap (λ b. b && leb (ready q) (departure (stop_at stops (row_of rows n i)) + midnight s)) e
-
-        first : (runs : Pairs) (i : ℕ) → i < (train_row n rows).count → (may_use runs q (train_row n rows) s && may_board (stop_at stops (row_of rows n i))) ≡ true → departure (stop_at stops (row_of rows n i)) + midnight s < there_from arrivals 0 q (stop_at stops (row_of rows n i)).station → SettlesBoarding m trains runs q (Trail rows size table 0) (known_total before.end) 0 n s i None
-        first runs i li e h =
-            boards_first m rows stops basis runs q (known_total before.end) n s i ln li table None e
-            (ap (λ b. only_when b (Some (record { total = with m m.empty (stretch Start (departure (stop_at stops (row_of rows n i)) + midnight s - ready q) 0); board = i; from = 0 }))) (sym (too_early i (eqb (stop_at stops (row_of rows n i)).station q.origin) refl h)))
-
-        nobody : (runs : Pairs) (i : ℕ) → i < (train_row n rows).count → (k : ℕ) → LinkedBefore m stops table k arrivals before.end → Filled m runs q rows stops (known_total before.end) table k → (may_board (stop_at stops (row_of rows n i)) ≡ true → departure (stop_at stops (row_of rows n i)) + midnight s < there_from arrivals k q (stop_at stops (row_of rows n i)).station) → (u : Bool) → may_use runs q (train_row n rows) s ≡ u → (b : Bool) → may_board (stop_at stops (row_of rows n i)) ≡ b → SettlesBoarding m trains runs q (Trail rows size table k) (known_total before.end) k n s i None
-        nobody runs i li k linked filled gone false eu b eb = boards_nothing m rows stops basis runs q (known_total before.end) n s i ln li (Trail rows size table k) k (ap (λ x. x && may_board (stop_at stops (row_of rows n i))) eu)
-        nobody runs i li k linked filled gone true eu false eb = boards_nothing m rows stops basis runs q (known_total before.end) n s i ln li (Trail rows size table k) k (ap₂ (λ x y. x && y) eu eb)
-        nobody runs i li zero linked filled gone true eu true eb = first runs i li (ap₂ (λ x y. x && y) eu eb) (gone eb)
-        nobody runs i li (suc k) linked filled gone true eu true eb =
-            let row = row_of rows n i in
-            let until = departure (stop_at stops row) + midnight s in
-            let same : suc k - 1 ≡ k = omega arith in
-            let c = known_total arrivals.known in
-            let chained = subst (λ (j : ℕ). Chained stops (promising m size c table j) (3 * size) arrivals) same (linked.chained (omega arith)) in
-            boards_later m rows stops basis runs q (known_total before.end) c linked.no_dearer (suc k) k table n s i until None (add-one k) filled ln li (ap₂ (λ x y. x && y) eu eb) refl
-            (no_changes m stops (promising m size c table k) arrivals (stop_at stops row).station until i chained (gone eb))
+        (λ runs may filled i li. nobody_boards m q rows stops basis n s ln table (known_total before.end) runs i li arrivals linked.no_dearer layer linked.chained filled (gone i li))

@@ -1,5 +1,5 @@
 -- The places of a layer with a promising label, chained by station, the last of a station first.
-use Rattle.std.specs.Prelude.{◌≡◌, ℕ, zero, suc, ◌+◌, ◌*◌, ◌-◌, ◌<◌, ◌≤◌, true, cond, min, List, length, replicate, is_some, Some, None, Option, IfSome, slice_index_or, slice_set, ◌==◌}
+use Rattle.std.specs.Prelude.{◌≡◌, ℕ, zero, suc, ◌+◌, ◌*◌, ◌-◌, ◌<◌, ◌≤◌, Bool, true, ◌&&◌, nat_le, cond, min, List, length, replicate, is_some, Some, None, Option, IfSome, slice_index_or, slice_set, ◌==◌}
 use Rattle.tariff.specs.Meaning.{Meaning}
 use Rattle.book.specs.Answers.{train_row}
 use Rattle.book.specs.Limits.{last_station}
@@ -89,6 +89,10 @@ module _ {A : Type 0} (stops : List StopRow) (label : Shift → ℕ → Option (
 abbrev pub there_from : {A : Type 0} → Arrivals A → (k : ℕ) → Query → (station : ℕ) → ℕ
 there_from arrivals zero q station = cond (station == q.origin) (ready q) never
 there_from arrivals (suc k) q station = slice_index_or arrivals.earliest station never
+
+-- one may board the run of that shift at the stop, and is there by the time that it leaves
+abbrev pub may_be_caught : {A : Type 0} → Arrivals A → (k : ℕ) → Query → StopRow → Shift → Bool
+may_be_caught arrivals k q stop s = may_board stop && nat_le (there_from arrivals k q stop.station - departure stop) (midnight s)
 
 module _ {A : Type 0} (rows : List TrainRow) (stops : List StopRow) (k : ℕ) (q : Query) (arrivals : Arrivals A) (n : ℕ) (s : Shift) where
   abbrev stop : ℕ → StopRow

@@ -3,13 +3,15 @@ ghost use Rattle.std.specs.Prelude.{◌≡◌, ℕ, ◌<◌, ◌≤◌, length, 
 ghost use Rattle.book.specs.Limits.{last_station};
 ghost use Rattle.connection.specs.Clock.{midnight};
 ghost use Rattle.connection.specs.declared.ride.Shift.{Shift as AShift};
-ghost use Rattle.search.specs.Chains.{there_from, OutOfReach, WithinReach};
+ghost use Rattle.search.specs.Chains.{there_from, may_be_caught, OutOfReach, WithinReach};
 
 use crate::chains::{Arrivals, NEVER};
 use crate::inquiry::Inquiry;
 use crate::layer::Layer;
 use crate::minutes::departure;
+use book::rows::StopRow;
 use connection::allowed::may_board;
+use connection::ride::Shift;
 use tariff::Tariff;
 
 impl<P: Tariff> Inquiry<'_, P> {
@@ -41,6 +43,24 @@ impl<P: Tariff> Inquiry<'_, P> {
             }
         }
         fewest
+    }
+
+    // Whether one may board the run of that shift at the stop, and is there by the time that it leaves.
+    pub fn may_be_caught(
+        &self,
+        layer: Layer,
+        arrivals: &Arrivals<P::Total>,
+        shift: Shift,
+        stop: &StopRow,
+    ) -> bool
+        requires known { stop.now.station ≤ last_station }
+        ensures { result ≡ may_be_caught arrivals.now layer.number self.now.query.now stop.now shift }
+    {
+        if !may_board(stop) {
+            return false;
+        }
+        let there = self.there_from(layer, arrivals, stop.station);
+        there.saturating_sub(departure(stop)) <= shift.midnight()
     }
 
     // The minute from which on one is at the station: at the start at the origin, later where somebody has come with a

@@ -50,6 +50,9 @@ impl<P: Tariff> Inquiry<'_, P> {
         let mut found = false;
         let mut aboard = None;
         for (i, stop) in stops.iter().enumerate() {
+            if aboard.is_none() && !self.may_be_caught(layer, arrivals, run.shift, stop) {
+                continue;
+            }
             aboard = self.if_worth_following(work, layer, place + i, reached, aboard);
             self.keep(work, layer, place + i, stop, aboard, reached);
             found |= aboard.is_some();

@@ -1,10 +1,12 @@
-use Rattle.std.proofs.Common.{◌≡◌, ℕ, ◌+◌, ◌-◌, ◌*◌, ◌<◌, ◌≤◌, ◌||◌, length, set, sym, ap, ◌∙◌, subst, ap₂, add_assoc, arith}
+use Rattle.std.proofs.Common.{◌≡◌, ℕ, ◌+◌, ◌-◌, ◌*◌, ◌<◌, ◌≤◌, ◌||◌, not, Option, length, set, sym, ap, ◌∙◌, subst, ap₂, add_assoc, arith}
 use Rattle.std.proofs.lemmas.List.{get_or_read}
 use Rattle.std.proofs.lemmas.Bool.{ltb-true, ltb-false}
 use Rattle.book.specs.Answers.{train_row}
 use Rattle.book.specs.Rules.{stop_at}
 use Rattle.book.specs.declared.rows.StopRow.{StopRow}
 use Rattle.connection.specs.Choosing.{cheaper as cheaper_of}
+use Rattle.connection.specs.declared.label.Label.{Label}
+use Rattle.search.specs.Chains.{may_be_caught}
 use Rattle.search.specs.Ends.{ends_no_dearer, known_total, is_end, end_here}
 use Rattle.search.specs.Layers.{row_of}
 use Rattle.search.specs.Notes.{noted}
@@ -12,8 +14,10 @@ use Rattle.search.specs.Records.{record_of}
 use Rattle.search.specs.Working.{number, layer_at, part_at, if_worth_following}
 use Rattle.search.proofs.Basis.{Basis, timetable_of}
 use Rattle.search.proofs.BlankRecords.{blank_less}
-use Rattle.search.proofs.FillingRuns.{FilledTo, filled_none, filled_more, comes_next, fills_run}
+use Rattle.search.proofs.Chaining.{not_some}
+use Rattle.search.proofs.FillingRuns.{FilledTo, filled_none, filled_more, filled_left, comes_next, fills_run}
 use Rattle.search.proofs.Layering.{record_below, few_records}
+use Rattle.search.proofs.LeftStops.{left_by, nobody_boards}
 use Rattle.search.proofs.RowsAreTrains.{fits, own_count, own_stop, place_below}
 use Rattle.search.proofs.Unchanged.{linked_same}
 use Rattle.search.proofs.WrittenRecords.{unchanged_still}
@@ -73,6 +77,36 @@ keep-requires-clause-blank g c =
     let l = c.loop-i in
     let row = train_row a.run.train a.self.now.trains.now in
     blank_less (part_at size a.layer.number a.run.shift + row.first + l.i) (layer_at size a.layer.number + (c.place-place.result + l.i)) l.work (omega (arith, c.place-place.ensures)) l.invariant.blank
+
+pub loop-i-preserved-then-not-may_be_caught : goal.loop-i-preserved-then-not-may_be_caught
+loop-i-preserved-then-not-may_be_caught g c =
+    let a = c.args in
+    let s = a.self.now in
+    let t = s.tariff.now in
+    let laws = g.met.P.Tariff in
+    let m = g.P.Tariff.meaning t in
+    let basis : Basis m s.trains.now s.stops.now = record { connex = laws.connex t; transitive = laws.transitive t; grows = laws.grows t; keeps = laws.keeps t; starts = laws.starts t; counts = laws.counts t; timetable = timetable_of s } in
+    let size = length s.stops.now in
+    let layer = a.layer.number in
+    let n = a.run.train in
+    let day = a.run.shift in
+    let l = c.loop-i in
+    let f = fits s.trains.now s.stops.now s.ordered n c.requires.in_force in
+    let long : length c.stops-stops.result.now ≡ (train_row n s.trains.now).count = ap length c.stops-stops.ensures ∙ own_count s.trains.now s.stops.now s.ordered n c.requires.in_force in
+    let li : l.i < (train_row n s.trains.now).count = omega (arith, c.loop-i-test.true) in
+    let row = row_of s.trains.now n l.i in
+    let below = record_below size layer day row (omega arith) in
+    let room : part_at size layer day + (train_row n s.trains.now).first + l.i < length l.work = omega (arith, below) in
+    let few : part_at size layer day + (train_row n s.trains.now).first + l.i < 64 * 3072 = omega (arith, few_records size layer day row (omega arith) s.ordered.few_stops a.layer.shallow) in
+    let stop_is = ap (λ x. stop_at x l.i) c.stops-stops.ensures ∙ own_stop s.trains.now s.stops.now s.ordered n l.i li in
+    let gone = left_by a.arrivals.now layer s.query.now (stop_at s.stops.now row) day (ap (λ x. may_be_caught a.arrivals.now layer s.query.now x day) (sym stop_is) ∙ sym c.may_be_caught.ensures ∙ c.if-not-may_be_caught.true) in
+    let end = a.reached.now.end in
+    let linked = linked_same m s.stops.now layer a.work.now l.work a.arrivals.now end end (λ z h. l.invariant.unchanged z (omega arith)) (λ total h. h) c.requires.linked in
+    let none = not_some l.aboard (c.is_none.ensures ∙ ap not c.if-is_none.true) in
+    let to = λ (i : ℕ) (o : Option (Label _)). FilledTo m s.query.now s.trains.now s.stops.now layer n day a.reached.now a.work.now l.work i l.found o l.reached in
+    subst (to (l.i + 1)) (sym none)
+    (filled_left m s.query.now s.trains.now s.stops.now layer n day a.reached.now basis c.requires.in_force a.work.now l.work l.i l.found l.reached (subst (to l.i) none l.invariant) li room few a.arrivals.now.known c.requires.linked.no_dearer
+    (λ runs best worse may filled. nobody_boards m s.query.now s.trains.now s.stops.now basis n day c.requires.in_force l.work (known_total best) runs l.i li a.arrivals.now worse layer linked.chained filled gone))
 
 pub loop-i-preserved : goal.loop-i-preserved
 loop-i-preserved g c =
