@@ -1,5 +1,5 @@
 -- The labels of a run, filled in stop by stop, settle its stops.
-use Rattle.std.proofs.Common.{◌≡◌, ℕ, suc, ◌+◌, ◌-◌, ◌*◌, ◌<◌, ◌≤◌, Bool, true, false, cond, ◌||◌, ◌⊎◌, List, length, set, is_some, Some, None, Option, sym, refl, ap, ◌∙◌, subst, ap₂, inl, inr, add_assoc, add-one, arith}
+use Rattle.std.proofs.Common.{◌≡◌, ℕ, suc, ◌+◌, ◌*◌, ◌<◌, ◌≤◌, Bool, true, false, cond, ◌||◌, ◌⊎◌, List, length, set, is_some, Some, None, Option, sym, refl, ap, ◌∙◌, subst, ap₂, inl, inr, add_assoc, add-one, arith}
 use Rattle.std.proofs.Math.Bool.{or-false}
 use Rattle.std.proofs.lemmas.Bool.{cases_lt}
 use Rattle.tariff.specs.Meaning.{Meaning}
@@ -21,7 +21,7 @@ use Rattle.connection.specs.declared.ride.Shift.{Shift}
 use Rattle.connection.proofs.Onward.{settles_first_stop, settles_next_stop, settles_excused}
 use Rattle.connection.proofs.Times.{Punctual, on_time}
 use Rattle.search.specs.Ends.{ends_no_dearer, known_total, is_end, end_here, Known, NoDearer}
-use Rattle.search.specs.Layers.{row_of, Trail, Holds, Filled, UnchangedBelow, BlankFrom, NoLabelBetween, SettledBetween, Fills, RunAsked, run_begins, run_ends}
+use Rattle.search.specs.Layers.{row_of, Trail, Holds, Filled, UnchangedBelow, BlankFrom, RunAsked}
 use Rattle.search.specs.Notes.{noted as with_label, Noted}
 use Rattle.search.specs.Records.{record_of, label_of}
 use Rattle.search.specs.Working.{number, place, layer_at, part_at, label_at, label_in, hopeless, beaten, if_promising, if_worth_following}
@@ -36,7 +36,7 @@ use Rattle.search.proofs.Chosen.{cheaper_none}
 use Rattle.search.proofs.KnownEnds.{cheaper_no_dearer, known_more, no_end_here}
 use Rattle.search.proofs.NotedLabels.{noted_written}
 use Rattle.search.proofs.PromisingLabels.{settles_promising}
-use Rattle.search.proofs.RowsAreTrains.{fits, count_is, stop_is, same_row, same_place, place_below}
+use Rattle.search.proofs.RowsAreTrains.{fits, count_is, stop_is, place_below}
 use Rattle.search.proofs.Unchanged.{label_same, unchanged_sym, boarding_same, filled_same, holds_still, filled_still}
 use Rattle.search.proofs.WrittenRecords.{written_same, written_here, unchanged_still}
 
@@ -58,7 +58,7 @@ module _ {A : Type 0} (m : Meaning A) (q : Query) (rows : List TrainRow) (stops 
   start = part_at size layer s + first
 
   -- if the calendar says so, and the layers before are filled
-  abbrev When : (Pairs → Type 0) → List (WorkRecord A) → Type 0
+  abbrev pub When : (Pairs → Type 0) → List (WorkRecord A) → Type 0
   When P table = (runs : Pairs) → RunAsked q (train_row n rows) s true runs → Filled m runs q rows stops (known_total before.end) table layer → P runs
 
   -- the run up to its stop i; `before` was reached ahead of it, `now` is
@@ -75,7 +75,7 @@ module _ {A : Type 0} (m : Meaning A) (q : Query) (rows : List TrainRow) (stops 
   layer_before_start : layer_at size layer ≤ start
   layer_before_start = omega arith
 
-  start_is : start ≡ layer_at size layer + place size s first
+  pub start_is : start ≡ layer_at size layer + place size s first
   start_is = add_assoc (layer_at size layer) (number s * size) first
 
   module _ (basis : Basis m rows stops) (ln : n < length rows) where
@@ -229,46 +229,3 @@ module _ {A : Type 0} (m : Meaning A) (q : Query) (rows : List TrainRow) (stops 
         let kept = blank_kept (start + i) new state.blank in
         filled_more old new i found None None now now state li room few_records refl new kept same refl found None (sym (or-false found))
         (λ runs may filled h. comes_next old new i found None None now now state li room few_records refl new kept same refl (stop_at stops (row_of rows n i)) (stop_at stops (row_of rows n (i + 1))) None None None c worse refl refl h boards refl refl runs may filled h)
-
-    -- ---- the whole run
-    -- a place between the run's first and last is one of its stops
-    pub of_the_run : (P : ℕ → Shift → ℕ → Type 0) (n' : ℕ) (s' : Shift) (i' : ℕ) → n' < length rows → i' < (train_row n' rows).count → place size s first ≤ place size s' (row_of rows n' i') → place size s' (row_of rows n' i') < place size s (row_of rows n count) → ((i : ℕ) → i < count → P n s i) → P n' s' i'
-    of_the_run P n' s' i' ln' li' low high all =
-        let mine = fits rows stops basis.timetable.ordered n ln in
-        let its = fits rows stops basis.timetable.ordered n' ln' in
-        let x = place size s' (row_of rows n' i') in
-        let i = x - place size s first in
-        let li : i < count = omega arith in
-        let same = same_place s s' size (row_of rows n i) (row_of rows n' i') (omega arith) (omega arith) (omega arith) in
-        let who = same_row rows stops basis.timetable.ordered n i n' i' ln li ln' li' same.1 in
-        subst (λ (k : ℕ). P k s' i') who.0 (subst (λ (t : Shift). P n t i') same.0 (subst (P n s) who.1 (all i li)))
-
-    module _ (old new : List (WorkRecord A)) (found : Bool) (aboard : Option (Label A)) (now : Reached A) (state : FilledTo old new count found aboard now) where
-      run_unchanged : UnchangedBelow (layer_at size layer + place size s first) old new
-      run_unchanged z h = state.unchanged z (omega (arith, add_assoc (layer_at size layer) (number s * size) first))
-
-      row_label : (i : ℕ) → label_at new (start + i) ≡ label_in size new layer s (row_of rows n i)
-      row_label i = ap (label_at new) (add_assoc (part_at size layer s) first i)
-
-      run_nothing : found ≡ false → NoLabelBetween rows size new layer (place size s first) (place size s (row_of rows n count))
-      run_nothing e n' s' i' ln' li' low high =
-          of_the_run (λ k t j. label_in size new layer t (row_of rows k j) ≡ None) n' s' i' ln' li' low high (λ i li. sym (row_label i) ∙ state.nothing e i li)
-
-      run_settled : When (λ runs. SettledBetween m q rows stops runs (known_total now.end) old new layer (place size s first) (place size s (row_of rows n count))) old
-      run_settled runs may filled n' s' i' ln' li' low high =
-          of_the_run (λ k t j. Holds m runs q rows stops (known_total now.end) old layer k t j (label_in size new layer t (row_of rows k j))) n' s' i' ln' li' low high
-          (λ i li. subst (Holds m runs q rows stops (known_total now.end) old layer n s i) (row_label i) (state.settled runs may filled i li))
-
-      run_known : Known stops old q.destination (layer_at size layer + place size s first) m before.end → Known stops new q.destination (layer_at size layer + place size s (row_of rows n count)) m now.end
-      run_known h =
-          let end : start + count ≡ layer_at size layer + place size s (row_of rows n count) = omega (arith, start_is, add_assoc (number s * size) first count) in
-          subst (λ (x : ℕ). Known stops new q.destination x m now.end) end (state.known_end h)
-
-      run_blank : BlankFrom (layer_at size layer + place size s (row_of rows n count)) new
-      run_blank = blank_less (start + count) (layer_at size layer + place size s (row_of rows n count)) new (omega (arith, start_is, add_assoc (number s * size) first count)) state.blank
-
-      run_noted : Noted m size old layer (place size s first) before.notes → Noted m size new layer (place size s (row_of rows n count)) now.notes
-      run_noted h = subst (λ (x : ℕ). Noted m size new layer x now.notes) (add_assoc (number s * size) first count) (state.noted h)
-
-      pub fills_run : Fills m q rows stops layer (RunAsked q (train_row n rows) s true) old new (run_begins rows size n s) (run_ends rows size n s) found before now
-      fills_run = record { unchanged = run_unchanged; blank = λ h. run_blank; nothing = run_nothing; known = run_known; no_dearer = state.no_dearer; noted = run_noted; settled = run_settled }

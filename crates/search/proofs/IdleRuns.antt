@@ -1,40 +1,33 @@
 -- Nobody is on board a run that nobody boards, so its blank records settle its stops.
-use Rattle.std.proofs.Common.{◌≡◌, ℕ, zero, suc, ◌+◌, ◌*◌, ◌<◌, ◌≤◌, ◌-◌, Bool, true, false, cond, ◌&&◌, eqb, leb, List, length, Some, None, Option, sym, refl, ap, ap₂, ◌∙◌, subst, add_assoc, add-one, arith}
-use Rattle.std.proofs.lemmas.Bool.{lt-leb}
+use Rattle.std.proofs.Common.{◌≡◌, ℕ, zero, suc, ◌+◌, ◌*◌, ◌<◌, ◌≤◌, Bool, false, ◌&&◌, List, length, None, Option, sym, refl, ap, subst, add_assoc, arith}
 use Rattle.tariff.specs.Meaning.{Meaning}
-use Rattle.tariff.specs.declared.step.Kind.TheVariants.{Start}
 use Rattle.book.specs.Answers.{train_row}
 use Rattle.book.specs.Rules.{stop_at}
 use Rattle.book.specs.Trains.{Train, trains_in}
 use Rattle.book.specs.declared.rows.StopRow.{StopRow}
 use Rattle.book.specs.declared.rows.TrainRow.{TrainRow}
 use Rattle.calendar.specs.Pairs.{Pairs}
-use Rattle.connection.specs.Choosing.{only_when}
-use Rattle.connection.specs.Clock.{midnight, ready}
-use Rattle.connection.specs.Labels.{with}
-use Rattle.connection.specs.Prices.{stretch}
-use Rattle.connection.specs.Rides.{may_board, departure, stops_at}
+use Rattle.connection.specs.Rides.{may_board, stops_at}
 use Rattle.connection.specs.Settled.{SettlesBoarding}
 use Rattle.connection.specs.declared.query.Query.{Query}
 use Rattle.connection.specs.declared.ride.Shift.{Shift}
 use Rattle.connection.proofs.Onward.{settles_first_stop, settles_next_stop}
 use Rattle.connection.proofs.Times.{Punctual, on_time}
-use Rattle.search.specs.Chains.{never, Chained, promising, there_from, LinkedBefore, OutOfReach}
+use Rattle.search.specs.Chains.{LinkedBefore, OutOfReach}
 use Rattle.search.specs.Ends.{known_total}
 use Rattle.search.specs.Layers.{row_of, Trail, Holds, Filled, BlankFrom, Fills, RunAsked, run_begins, run_ends}
-use Rattle.search.specs.Working.{may_use, number, place, layer_at, part_at, label_in}
+use Rattle.search.specs.Working.{number, place, layer_at, part_at, label_in}
 use Rattle.search.specs.declared.chains.Arrivals.{Arrivals}
 use Rattle.search.specs.declared.reached.Reached.{Reached}
 use Rattle.search.specs.declared.record.WorkRecord.{WorkRecord}
 use Rattle.search.proofs.Basis.{Basis}
-use Rattle.search.proofs.BestChange.{no_changes}
 use Rattle.search.proofs.BlankRecords.{blank_less, blank_label}
-use Rattle.search.proofs.FillingRuns.{of_the_run}
 use Rattle.search.proofs.KnownEnds.{known_over}
 use Rattle.search.proofs.LeftStops.{nobody_boards}
 use Rattle.search.proofs.NotedLabels.{noted_over}
-use Rattle.search.proofs.RowsAreTrains.{fits, count_is}
-use Rattle.search.proofs.WaysToBoard.{boards_nothing, boards_first, boards_later}
+use Rattle.search.proofs.RowsAreTrains.{count_is}
+use Rattle.search.proofs.WaysToBoard.{boards_nothing}
+use Rattle.search.proofs.WholeRuns.{of_the_run}
 
 module _ {A : Type 0} (m : Meaning A) (q : Query) (rows : List TrainRow) (stops : List StopRow) (basis : Basis m rows stops) (layer n : ℕ) (s : Shift) (ln : n < length rows) (table : List (WorkRecord A)) where
   abbrev size : ℕ

@@ -13,7 +13,7 @@ use Rattle.search.specs.Records.{record_of, label_of}
 use Rattle.search.specs.Working.{layer_at, label_at, costs_no_more, beaten}
 use Rattle.search.specs.declared.notes.Notes.{Notes}
 use Rattle.search.specs.declared.record.WorkRecord.{WorkRecord}
-use Rattle.search.proofs.BeatenLabels.{Beater, beater}
+use Rattle.search.proofs.BeatenLabels.{beater}
 use Rattle.search.proofs.BlankRecords.{blank_label}
 use Rattle.search.proofs.Layering.{next_layer, layers_below}
 use Rattle.search.proofs.WrittenRecords.{written_same, written_here}

@@ -25,4 +25,5 @@ mod TouchedBlocks
 mod TrailsAreWritten
 mod Unchanged
 mod WaysToBoard
+mod WholeRuns
 mod WrittenRecords

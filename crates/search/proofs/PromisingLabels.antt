@@ -1,5 +1,5 @@
 -- A label of which nothing can come may be left out.
-use Rattle.std.proofs.Common.{◌≡◌, ℕ, Bool, true, false, cond, List, is_some, Some, None, Option, sym, refl, ◌∙◌, subst, inr, arith}
+use Rattle.std.proofs.Common.{◌≡◌, ℕ, Bool, true, false, cond, is_some, Some, None, Option, sym, refl, ◌∙◌, inr, arith}
 use Rattle.std.proofs.lemmas.Option.{none-some}
 use Rattle.tariff.specs.Laws.{Connex, Transitive}
 use Rattle.tariff.specs.Meaning.{Meaning}

@@ -20,7 +20,6 @@ use Rattle.search.specs.Records.{blank}
 use Rattle.search.specs.Working.{may_use, place, layer_at, label_in}
 use Rattle.search.specs.Shifts.{on}
 use Rattle.search.specs.declared.by_shift.ByShift.{ByShift}
-use Rattle.search.specs.declared.ends.End.{End}
 use Rattle.search.specs.declared.reached.Reached.{Reached}
 use Rattle.search.specs.declared.record.WorkRecord.{WorkRecord}
 

@@ -138,11 +138,7 @@ impl<P: Tariff> Inquiry<'_, P> {
     }
 
     // Whether both are there, and the first costs no more.
-    fn costs_at_most(
-        &self,
-        first: Option<Label<P::Total>>,
-        second: Option<Label<P::Total>>,
-    ) -> bool
+    fn costs_at_most(&self, first: Option<Label<P::Total>>, second: Option<Label<P::Total>>) -> bool
         ensures { result ≡ both_and_no_dearer (P.Tariff.meaning self.now.tariff.now) first second }
     {
         first

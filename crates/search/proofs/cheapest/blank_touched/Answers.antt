@@ -1,4 +1,4 @@
-use Rattle.std.proofs.Common.{◌≡◌, ℕ, ◌+◌, ◌-◌, ◌<◌, ◌≤◌, ◌/◌, false, take, drop, length, get_or, replicate, sym, ap, ◌∙◌, subst, inl, inr, arith}
+use Rattle.std.proofs.Common.{◌≡◌, ℕ, ◌+◌, ◌-◌, ◌≤◌, ◌/◌, false, take, drop, length, get_or, replicate, sym, ap, ◌∙◌, subst, inl, inr, arith}
 use Rattle.std.proofs.lemmas.Bool.{cases_lt}
 use Rattle.std.proofs.lemmas.List.{get_or_past, length-take-le, length-drop}
 use borrow.Rule.Slice.PartMut.{put_mid}
@@ -19,22 +19,24 @@ loop-block-preserved g c =
           let room : a + k ≤ length l.work = omega (arith, w.min.ensures, w.min-end.ensures, l.auto.work) in
           let long : length (take k (drop a l.work)) ≡ k = length-take-le k (drop a l.work) (omega (arith, length-drop a l.work)) in
           let now = w.work-is ∙ ap (put_mid a k l.work) (w.blank_block.ensures ∙ ap (λ n. replicate n blank) long) in
-          let still = λ (z : ℕ) (was : get_or l.work z blank ≡ blank). ap (λ t. get_or t z blank) now ∙ still_blank a k l.work room z was in
-          (λ z h. elim (cases_lt (z / 64) l.block) [
-            | inl b ↦ still z (l.invariant.0 z b)
-            | inr b ↦
-                elim (cases_lt z e) [
-                  | inl high ↦ ap (λ t. get_or t z blank) now ∙ part_blank a k l.work room z (omega (arith, w.min.ensures)) (omega arith)
-                  | inr past ↦ still z (get_or_past l.work z blank (omega (arith, w.min-end.ensures, l.auto.work)))
-                ]
-          ],
-          record { long = l.invariant.1.long; blank = λ z clear. still z (l.invariant.1.blank z clear) })
-      | else-touched w ↦
-          (λ z h. subst (λ t. get_or t z blank ≡ blank) (sym w.work-is) (elim (cases_lt (z / 64) l.block) [
-            | inl b ↦ l.invariant.0 z b
-            | inr b ↦ let e : l.block ≡ z / 64 = omega arith in l.invariant.1.blank z (ap (λ x. get_or c.args.notes.now.touched x false) (sym e) ∙ w.if-touched.false)
-          ]),
-          subst (λ t. BlankElsewhere t c.args.notes.now) (sym w.work-is) l.invariant.1)
+          let still = λ (z : ℕ) (was : get_or l.work z blank ≡ blank). ap (λ t. get_or t z blank) now ∙ still_blank a k l.work room z was in (
+            λ z h. elim (cases_lt (z / 64) l.block) [
+              | inl b ↦ still z (l.invariant.0 z b)
+              | inr b ↦
+                  elim (cases_lt z e) [
+                    | inl high ↦ ap (λ t. get_or t z blank) now ∙ part_blank a k l.work room z (omega (arith, w.min.ensures)) (omega arith)
+                    | inr past ↦ still z (get_or_past l.work z blank (omega (arith, w.min-end.ensures, l.auto.work)))
+                  ]
+            ],
+            record { long = l.invariant.1.long; blank = λ z clear. still z (l.invariant.1.blank z clear) },
+          )
+      | else-touched w ↦ (
+        λ z h. subst (λ t. get_or t z blank ≡ blank) (sym w.work-is) (elim (cases_lt (z / 64) l.block) [
+          | inl b ↦ l.invariant.0 z b
+          | inr b ↦ let e : l.block ≡ z / 64 = omega arith in l.invariant.1.blank z (ap (λ x. get_or c.args.notes.now.touched x false) (sym e) ∙ w.if-touched.false)
+        ]),
+        subst (λ t. BlankElsewhere t c.args.notes.now) (sym w.work-is) l.invariant.1,
+      )
     ]
 
 pub returns : goal.returns

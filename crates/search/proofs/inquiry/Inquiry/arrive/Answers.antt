@@ -1,9 +1,9 @@
-use Rattle.std.proofs.Common.{◌≡◌, ℕ, ◌+◌, ◌*◌, ◌<◌, ◌≤◌, length, get_or, is_some, None, Option, sym, ap, ap₂, ◌∙◌, subst, add_assoc, arith}
+use Rattle.std.proofs.Common.{◌≡◌, ℕ, ◌+◌, ◌*◌, ◌<◌, length, get_or, is_some, sym, ap, ap₂, ◌∙◌, subst, add_assoc, arith}
 use Rattle.std.proofs.lemmas.List.{length-take-le, get_or-take}
 use Rattle.book.specs.Rules.{stop_at}
 use Rattle.search.specs.Chains.{with_arrival, Chained, promising}
 use Rattle.search.specs.Ends.{known_total}
-use Rattle.search.specs.Notes.{past, up_to}
+use Rattle.search.specs.Notes.{past}
 use Rattle.search.specs.Working.{number, place, layer_at, part_at, label_at, label_in, if_promising}
 use Rattle.search.proofs.Chaining.{not_some, chained_none, arrived_some}
 use Rattle.search.proofs.ListedLabels.{chained_next, chained_past, chained_end}

@@ -7,7 +7,6 @@ use Rattle.connection.specs.Rides.{can_catch, may_alight, arrival}
 use Rattle.connection.specs.Settled.{no_dearer}
 use Rattle.connection.specs.Ways.{Best}
 use Rattle.connection.proofs.Tests.{both_left}
-use Rattle.connection.specs.declared.label.Label.{Label}
 use Rattle.search.specs.Chains.{never, behind, ArrivesAt, promising}
 use Rattle.search.specs.Changing.{changed}
 use Rattle.search.specs.Ends.{known_total}

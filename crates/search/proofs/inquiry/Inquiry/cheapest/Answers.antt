@@ -1,11 +1,8 @@
-use Rattle.std.proofs.Common.{◌+◌, ◌≤◌, length, replicate, None, refl, ap, ◌∙◌, arith}
-use Rattle.search.specs.Layers.{Asked}
+use Rattle.std.proofs.Common.{◌+◌, length, replicate, None, refl, ap, ◌∙◌, arith}
 use Rattle.search.specs.Records.{blank}
-use Rattle.search.specs.Working.{layer_at}
 use Rattle.search.proofs.Basis.{Basis, timetable_of}
 use Rattle.search.proofs.CheapestEnd.{searched, nothing_found, whole, end_layer, whole_told, finds, rest_stands}
 use Rattle.search.proofs.Layering.{layers_below}
-use Rattle.search.proofs.inquiry.Inquiry.cheapest.Given.{Over}
 use Rattle.search.proofs.inquiry.Inquiry.cheapest.Goals as goal
 use Rattle.search.proofs.inquiry.Inquiry.cheapest.Goals.{in-Some, in-None}
 

@@ -1,4 +1,4 @@
-use Rattle.std.proofs.Common.{◌≡◌, ℕ, ◌+◌, ◌-◌, ◌*◌, ◌<◌, ◌≤◌, ◌||◌, not, Option, length, set, sym, ap, ◌∙◌, subst, ap₂, add_assoc, arith}
+use Rattle.std.proofs.Common.{◌≡◌, ℕ, ◌+◌, ◌*◌, ◌<◌, ◌≤◌, ◌||◌, not, Option, length, set, sym, ap, ◌∙◌, subst, ap₂, add_assoc, arith}
 use Rattle.std.proofs.lemmas.List.{get_or_read}
 use Rattle.std.proofs.lemmas.Bool.{ltb-true, ltb-false}
 use Rattle.book.specs.Answers.{train_row}
@@ -15,11 +15,12 @@ use Rattle.search.specs.Working.{number, layer_at, part_at, if_worth_following}
 use Rattle.search.proofs.Basis.{Basis, timetable_of}
 use Rattle.search.proofs.BlankRecords.{blank_less}
 use Rattle.search.proofs.Chaining.{not_some}
-use Rattle.search.proofs.FillingRuns.{FilledTo, filled_none, filled_more, filled_left, comes_next, fills_run}
+use Rattle.search.proofs.FillingRuns.{FilledTo, filled_none, filled_more, filled_left, comes_next}
 use Rattle.search.proofs.Layering.{record_below, few_records}
 use Rattle.search.proofs.LeftStops.{left_by, nobody_boards}
 use Rattle.search.proofs.RowsAreTrains.{fits, own_count, own_stop, place_below}
 use Rattle.search.proofs.Unchanged.{linked_same}
+use Rattle.search.proofs.WholeRuns.{fills_run}
 use Rattle.search.proofs.WrittenRecords.{unchanged_still}
 use Rattle.search.proofs.inquiry.Inquiry.fill_run.Goals as goal
 use Rattle.search.proofs.inquiry.Inquiry.fill_run.Goals.{in-Some, in_default}

@@ -1,4 +1,4 @@
-use Rattle.std.proofs.Common.{◌+◌, ◌<◌, ◌≤◌, suc, length, IfSome, ap, ◌∙◌, sym, subst, arith}
+use Rattle.std.proofs.Common.{◌<◌, ◌≤◌, suc, length, IfSome, ap, ◌∙◌, sym, subst, arith}
 use Rattle.search.specs.Notes.{label_of_layer}
 use Rattle.search.specs.Working.{layer_at, costs_no_more}
 use Rattle.search.proofs.Layering.{next_layer, layers_below}

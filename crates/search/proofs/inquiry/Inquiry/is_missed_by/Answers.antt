@@ -1,9 +1,9 @@
-use Rattle.std.proofs.Common.{◌≡◌, ℕ, ◌+◌, ◌-◌, ◌<◌, min, length, sym, ap, ap₂, ◌∙◌, subst, arith}
+use Rattle.std.proofs.Common.{◌≡◌, ℕ, ◌-◌, min, length, sym, ap, ap₂, ◌∙◌, subst, arith}
 use Rattle.book.specs.Answers.{train_row}
 use Rattle.book.specs.Rules.{stop_at}
 use Rattle.connection.specs.Rides.{may_board, departure}
 use Rattle.search.specs.Chains.{there_from}
-use Rattle.search.proofs.MissedTrains.{MissedBy, missed_none, missed_over, missed_more, out_of_reach, within_reach}
+use Rattle.search.proofs.MissedTrains.{MissedBy, missed_over, missed_more, out_of_reach, within_reach}
 use Rattle.search.proofs.RowsAreTrains.{own_count, own_stop}
 use Rattle.search.proofs.inquiry.Inquiry.is_missed_by.Goals as goal
 use Rattle.search.proofs.inquiry.Inquiry.is_missed_by.Goals.{then-may_board, else-may_board}
