@@ -23,7 +23,7 @@ use Rattle.search.specs.declared.record.WorkRecord.{WorkRecord}
 use Rattle.search.proofs.Basis.{Basis}
 use Rattle.search.proofs.BlankRecords.{blank_less, blank_label}
 use Rattle.search.proofs.KnownEnds.{known_over}
-use Rattle.search.proofs.LeftStops.{nobody_boards}
+use Rattle.search.proofs.LeftStops.{left_by, nobody_boards}
 use Rattle.search.proofs.NotedLabels.{noted_over}
 use Rattle.search.proofs.RowsAreTrains.{count_is}
 use Rattle.search.proofs.WaysToBoard.{boards_nothing}
@@ -78,4 +78,4 @@ module _ {A : Type 0} (m : Meaning A) (q : Query) (rows : List TrainRow) (stops 
     pub fills_out_of_reach : (usable : Bool) (arrivals : Arrivals A) → LinkedBefore m stops table layer arrivals before.end → OutOfReach rows stops layer q arrivals n s → Fills m q rows stops layer (RunAsked q (train_row n rows) s usable) table table (run_begins rows size n s) (run_ends rows size n s) false before before
     fills_out_of_reach usable arrivals linked gone =
         fills (RunAsked q (train_row n rows) s usable)
-        (λ runs may filled i li. nobody_boards m q rows stops basis n s ln table (known_total before.end) runs i li arrivals linked.no_dearer layer linked.chained filled (gone i li))
+        (λ runs may filled i li. nobody_boards m q rows stops basis n s ln table (known_total before.end) runs i li arrivals linked.no_dearer layer linked.chained filled (left_by arrivals layer q (stop_at stops (row_of rows n i)) s (gone i li)))

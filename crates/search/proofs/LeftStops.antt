@@ -17,7 +17,7 @@ use Rattle.connection.specs.Rides.{may_board, departure}
 use Rattle.connection.specs.Settled.{Hopeless, SettlesBoarding}
 use Rattle.connection.specs.declared.query.Query.{Query}
 use Rattle.connection.specs.declared.ride.Shift.{Shift}
-use Rattle.search.specs.Chains.{never, Chained, promising, there_from, may_be_caught}
+use Rattle.search.specs.Chains.{never, Chained, promising, there_from, missed_at, may_be_caught}
 use Rattle.search.specs.Ends.{known_total}
 use Rattle.search.specs.Layers.{row_of, Trail, Filled}
 use Rattle.search.specs.Working.{may_use}
@@ -30,7 +30,7 @@ use Rattle.search.proofs.WaysToBoard.{boards_nothing, boards_first, boards_later
 -- what cannot be caught is left by then
 pub left_by : {A : Type 0} (arrivals : Arrivals A) (k : ℕ) (q : Query) (stop : StopRow) (s : Shift) → may_be_caught arrivals k q stop s ≡ false → may_board stop ≡ true → departure stop + midnight s < there_from arrivals k q stop.station
 left_by arrivals k q stop s none may =
-    let late = there_from arrivals k q stop.station - departure stop in
+    let late = missed_at arrivals k q stop in
     omega (arith, leb-false late (midnight s) (sym (ap (λ b. b && leb late (midnight s)) may) ∙ none))
 
 module _ {A : Type 0} (m : Meaning A) (q : Query) (rows : List TrainRow) (stops : List StopRow) (basis : Basis m rows stops) (n : ℕ) (s : Shift) (ln : n < length rows) (table : List (WorkRecord A)) (known : Option A) (runs : Pairs) (i : ℕ) (li : i < (train_row n rows).count) where

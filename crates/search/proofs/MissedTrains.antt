@@ -1,25 +1,24 @@
 -- By how many minutes a train is missed, stop by stop.
-use Rattle.std.proofs.Common.{◌≡◌, ℕ, ◌+◌, ◌-◌, ◌<◌, ◌≤◌, true, false, ◌⊎◌, min, List, sym, refl, ap, ◌∙◌, subst, inl, inr, arith}
-use Rattle.std.proofs.lemmas.Bool.{cases_lt}
+use Rattle.std.proofs.Common.{◌≡◌, ℕ, ◌+◌, ◌<◌, ◌≤◌, true, false, ◌⊎◌, min, List, sym, refl, ap, ◌∙◌, subst, inl, inr, arith, ◌&&◌, leb, ap₂, Bool}
+use Rattle.std.proofs.lemmas.Bool.{cases_lt, lt-leb, le-leb}
 use Rattle.book.specs.Answers.{train_row}
 use Rattle.book.specs.Rules.{stop_at}
 use Rattle.book.specs.declared.rows.StopRow.{StopRow}
 use Rattle.book.specs.declared.rows.TrainRow.{TrainRow}
 use Rattle.connection.specs.Clock.{midnight}
-use Rattle.connection.specs.Rides.{may_board, departure}
+use Rattle.connection.specs.Rides.{may_board}
 use Rattle.connection.specs.declared.query.Query.{Query}
 use Rattle.connection.specs.declared.ride.Shift.{Shift}
 use Rattle.connection.specs.declared.ride.Shift.TheVariants.{DayBefore, SameDay, DayAfter}
-use Rattle.search.specs.Chains.{there_from, never, OutOfReach, WithinReach}
+use Rattle.search.specs.Chains.{missed_at, never, OutOfReach, WithinReach}
 use Rattle.search.specs.declared.chains.Arrivals.{Arrivals}
 
 module _ {A : Type 0} (rows : List TrainRow) (stops : List StopRow) (k : ℕ) (q : Query) (arrivals : Arrivals A) (n : ℕ) where
   abbrev stop : ℕ → StopRow
   stop i = stop_at stops ((train_row n rows).first + i)
 
-  -- one comes so many minutes after the run of the day before has left the stop
   abbrev late : ℕ → ℕ
-  late i = there_from arrivals k q (stop i).station - departure (stop i)
+  late i = missed_at arrivals k q (stop i)
 
   -- fewest is the least of that at the first stops, if one may board there
   pub record MissedBy (upto fewest : ℕ) : Type 0 where
@@ -62,8 +61,15 @@ module _ {A : Type 0} (rows : List TrainRow) (stops : List StopRow) (k : ℕ) (q
 
   module _ (fewest : ℕ) (all : MissedBy (train_row n rows).count fewest) (s : Shift) where
     pub out_of_reach : midnight s < fewest → OutOfReach rows stops k q arrivals n s
-    out_of_reach h i li b = omega (arith, all.at_most i li b)
+    out_of_reach h i li = go (may_board (stop i)) refl
+      where
+        go : (b : Bool) → may_board (stop i) ≡ b → (b && leb (late i) (midnight s)) ≡ false
+        go false e = refl
+        go true e = lt-leb (late i) (midnight s) (omega (arith, all.at_most i li e))
 
     pub within_reach : fewest ≤ midnight s → WithinReach rows stops k q arrivals n s
     within_reach h =
-        elim all.is_one [ inl e ↦ absurd (omega (arith, e, no_day s)) | inr w ↦ (w.0, w.1, w.2, omega (arith, w.3)) ]
+        elim all.is_one [
+          | inl e ↦ absurd (omega (arith, e, no_day s))
+          | inr w ↦ (w.0, w.1, ap₂ (λ a b. a && b) w.2 (le-leb (late w.0) (midnight s) (omega (arith, w.3))))
+        ]

@@ -1,5 +1,5 @@
 -- The places of a layer with a promising label, chained by station, the last of a station first.
-use Rattle.std.specs.Prelude.{◌≡◌, ℕ, zero, suc, ◌+◌, ◌*◌, ◌-◌, ◌<◌, ◌≤◌, Bool, true, ◌&&◌, nat_le, cond, min, List, length, replicate, is_some, Some, None, Option, IfSome, slice_index_or, slice_set, ◌==◌}
+use Rattle.std.specs.Prelude.{◌≡◌, ℕ, zero, suc, ◌+◌, ◌*◌, ◌-◌, ◌<◌, ◌≤◌, Bool, true, false, ◌&&◌, nat_le, cond, min, List, length, replicate, is_some, Some, None, Option, IfSome, slice_index_or, slice_set, ◌==◌}
 use Rattle.tariff.specs.Meaning.{Meaning}
 use Rattle.book.specs.Answers.{train_row}
 use Rattle.book.specs.Limits.{last_station}
@@ -90,21 +90,25 @@ abbrev pub there_from : {A : Type 0} → Arrivals A → (k : ℕ) → Query → 
 there_from arrivals zero q station = cond (station == q.origin) (ready q) never
 there_from arrivals (suc k) q station = slice_index_or arrivals.earliest station never
 
+-- by how many minutes one misses the run of the day before at the stop
+abbrev pub missed_at : {A : Type 0} → Arrivals A → (k : ℕ) → Query → StopRow → ℕ
+missed_at arrivals k q stop = there_from arrivals k q stop.station - departure stop
+
 -- one may board the run of that shift at the stop, and is there by the time that it leaves
 abbrev pub may_be_caught : {A : Type 0} → Arrivals A → (k : ℕ) → Query → StopRow → Shift → Bool
-may_be_caught arrivals k q stop s = may_board stop && nat_le (there_from arrivals k q stop.station - departure stop) (midnight s)
+may_be_caught arrivals k q stop s = may_board stop && nat_le (missed_at arrivals k q stop) (midnight s)
 
 module _ {A : Type 0} (rows : List TrainRow) (stops : List StopRow) (k : ℕ) (q : Query) (arrivals : Arrivals A) (n : ℕ) (s : Shift) where
-  abbrev stop : ℕ → StopRow
-  stop i = stop_at stops ((train_row n rows).first + i)
+  abbrev caught : ℕ → Bool
+  caught i = may_be_caught arrivals k q (stop_at stops ((train_row n rows).first + i)) s
 
-  -- the run has left each of its stations by the time that one is there
+  -- the run can be caught at none of its stops
   abbrev pub OutOfReach : Type 0
-  OutOfReach = (i : ℕ) → i < (train_row n rows).count → may_board (stop i) ≡ true → departure (stop i) + midnight s < there_from arrivals k q (stop i).station
+  OutOfReach = (i : ℕ) → i < (train_row n rows).count → caught i ≡ false
 
-  -- one is at a station of it by the time that it leaves
+  -- it can be caught at one of them
   abbrev pub WithinReach : Type 0
-  WithinReach = (i : ℕ) × (i < (train_row n rows).count) × (may_board (stop i) ≡ true) × (there_from arrivals k q (stop i).station ≤ departure (stop i) + midnight s)
+  WithinReach = (i : ℕ) × (i < (train_row n rows).count) × (caught i ≡ true)
 
 module _ {A : Type 0} (m : Meaning A) where
   -- the labels of the layer k of which something can come, where a connection is known at that total

@@ -39,6 +39,7 @@ impl<P: Tariff> Inquiry<'_, P> {
             notes: Notes::none(),
         };
         self.fill_layers(work, &usable, &mut reached);
+        // by a name of its own, as what `reached` holds is lent below
         let end = reached.end;
         let found = match end {
             Some(end) => {

@@ -2,7 +2,7 @@
 //
 //     places: 1, 4, 7             the places with a label in the layer that is being filled, in their order
 //     touched: block 0, ..        the blocks of the table in which one is written
-//     latest: place 4 -> 1, ..    the last layer with a label at the place: it is the cheapest one there
+//     latest: place 4 -> layer 1, ..    the last layer with a label at the place, which is the cheapest one there
 ghost use Rattle.std.specs.Prelude.{◌≡◌, ◌*◌, ◌<◌, ◌≤◌, length, take};
 ghost use Rattle.search.specs.Notes.{no_notes, for_next_layer, with_note};
 

@@ -3,7 +3,7 @@ ghost use Rattle.std.specs.Prelude.{◌≡◌, ℕ, ◌<◌, ◌≤◌, length, 
 ghost use Rattle.book.specs.Limits.{last_station};
 ghost use Rattle.connection.specs.Clock.{midnight};
 ghost use Rattle.connection.specs.declared.ride.Shift.{Shift as AShift};
-ghost use Rattle.search.specs.Chains.{there_from, may_be_caught, OutOfReach, WithinReach};
+ghost use Rattle.search.specs.Chains.{there_from, missed_at, may_be_caught, OutOfReach, WithinReach};
 
 use crate::chains::{Arrivals, NEVER};
 use crate::inquiry::Inquiry;
@@ -24,13 +24,13 @@ impl<P: Tariff> Inquiry<'_, P> {
     {
         let mut missed_by = [0; 512];
         for n in 0..self.trains.len() {
-            missed_by[n] = self.is_missed_by(layer, arrivals, n);
+            missed_by[n] = self.minutes_missed(layer, arrivals, n);
         }
         missed_by
     }
 
-    // By how many minutes that is for one train: the fewest at a stop of it.
-    fn is_missed_by(&self, layer: Layer, arrivals: &Arrivals<P::Total>, train: usize) -> u16
+    // How many that is for one train: the fewest of its stops.
+    fn minutes_missed(&self, layer: Layer, arrivals: &Arrivals<P::Total>, train: usize) -> u16
         requires in_force { train < length self.now.trains.now }
         ensures out_of_reach { (s : AShift) → midnight s < result → OutOfReach self.now.trains.now self.now.stops.now layer.number self.now.query.now arrivals.now train s }
         ensures within_reach { (s : AShift) → result ≤ midnight s → WithinReach self.now.trains.now self.now.stops.now layer.number self.now.query.now arrivals.now train s }
@@ -38,8 +38,7 @@ impl<P: Tariff> Inquiry<'_, P> {
         let mut fewest = NEVER;
         for stop in self.trains[train].stops(self.stops) {
             if may_board(stop) {
-                let there = self.there_from(layer, arrivals, stop.station);
-                fewest = fewest.min(there.saturating_sub(departure(stop)));
+                fewest = fewest.min(self.missed_at(layer, arrivals, stop));
             }
         }
         fewest
@@ -56,11 +55,16 @@ impl<P: Tariff> Inquiry<'_, P> {
         requires known { stop.now.station ≤ last_station }
         ensures { result ≡ may_be_caught arrivals.now layer.number self.now.query.now stop.now shift }
     {
-        if !may_board(stop) {
-            return false;
-        }
+        may_board(stop) && self.missed_at(layer, arrivals, stop) <= shift.midnight()
+    }
+
+    // By how many minutes the run of the day before is missed at the stop.
+    fn missed_at(&self, layer: Layer, arrivals: &Arrivals<P::Total>, stop: &StopRow) -> u16
+        requires known { stop.now.station ≤ last_station }
+        ensures { result ≡ missed_at arrivals.now layer.number self.now.query.now stop.now }
+    {
         let there = self.there_from(layer, arrivals, stop.station);
-        there.saturating_sub(departure(stop)) <= shift.midnight()
+        there.saturating_sub(departure(stop))
     }
 
     // The minute from which on one is at the station: at the start at the origin, later where somebody has come with a

@@ -9,7 +9,7 @@ loop-n-preserved g c =
     let s = c.args.self.now in
     let l = c.loop-n in
     let k = c.args.layer.number in
-    let here = c.is_missed_by.result in
+    let here = c.minutes_missed.result in
     let room : l.n < length l.missed_by = omega (arith, l.invariant.0, s.ordered.few_trains) in
     let told = get_or-set_same l.missed_by l.n here 0 room in (
       length-set l.missed_by l.n here ∙ l.invariant.0,
@@ -18,14 +18,14 @@ loop-n-preserved g c =
         | inr b ↦
             let e : l.n ≡ j = omega arith in
             subst (λ (i : ℕ). OutOfReach s.trains.now s.stops.now k s.query.now c.args.arrivals.now i day) e
-            (c.is_missed_by.ensures.out_of_reach day (omega (arith, h, told, ap (λ i. get_or (set l.missed_by l.n here) i 0) e)))
+            (c.minutes_missed.ensures.out_of_reach day (omega (arith, h, told, ap (λ i. get_or (set l.missed_by l.n here) i 0) e)))
       ],
       λ j day lj h. elim (cases_lt j l.n) [
         | inl b ↦ let ne : j ≢ l.n = omega arith in l.invariant.2 j day b (omega (arith, h, get_or-set_other l.missed_by l.n j here 0 ne))
         | inr b ↦
             let e : l.n ≡ j = omega arith in
             subst (λ (i : ℕ). WithinReach s.trains.now s.stops.now k s.query.now c.args.arrivals.now i day) e
-            (c.is_missed_by.ensures.within_reach day (omega (arith, h, told, ap (λ i. get_or (set l.missed_by l.n here) i 0) e)))
+            (c.minutes_missed.ensures.within_reach day (omega (arith, h, told, ap (λ i. get_or (set l.missed_by l.n here) i 0) e)))
       ],
     )
 

@@ -1,5 +1,5 @@
 use Rattle.search.proofs.MissedTrains.{MissedBy}
-use Rattle.search.proofs.inquiry.Inquiry.is_missed_by.Given as goal
+use Rattle.search.proofs.inquiry.Inquiry.minutes_missed.Given as goal
 
 -- by that many minutes it is missed at the stops ahead
 abbrev pub invariant-loop-stop : goal.invariant-loop-stop

@@ -1,12 +1,12 @@
-use Rattle.std.proofs.Common.{◌≡◌, ℕ, ◌-◌, min, length, sym, ap, ap₂, ◌∙◌, subst, arith}
+use Rattle.std.proofs.Common.{◌≡◌, ℕ, min, length, sym, ap, ◌∙◌, subst, arith}
 use Rattle.book.specs.Answers.{train_row}
 use Rattle.book.specs.Rules.{stop_at}
-use Rattle.connection.specs.Rides.{may_board, departure}
-use Rattle.search.specs.Chains.{there_from}
+use Rattle.connection.specs.Rides.{may_board}
+use Rattle.search.specs.Chains.{missed_at}
 use Rattle.search.proofs.MissedTrains.{MissedBy, missed_over, missed_more, out_of_reach, within_reach}
 use Rattle.search.proofs.RowsAreTrains.{own_count, own_stop}
-use Rattle.search.proofs.inquiry.Inquiry.is_missed_by.Goals as goal
-use Rattle.search.proofs.inquiry.Inquiry.is_missed_by.Goals.{then-may_board, else-may_board}
+use Rattle.search.proofs.inquiry.Inquiry.minutes_missed.Goals as goal
+use Rattle.search.proofs.inquiry.Inquiry.minutes_missed.Goals.{then-may_board, else-may_board}
 
 pub loop-stop-preserved : goal.loop-stop-preserved
 loop-stop-preserved g c =
@@ -19,7 +19,7 @@ loop-stop-preserved g c =
     let is = ap (λ x. stop_at x l.stop-index) c.stops-stop-items.ensures ∙ own_stop s.trains.now s.stops.now s.ordered n l.stop-index (omega arith) in
     elim c.if-may_board.branch [
       | then-may_board w ↦
-          let late = w.saturating_sub.ensures ∙ ap₂ (λ (x y : ℕ). x - y) (w.there_from-there.ensures ∙ ap (λ stop. there_from arrivals k s.query.now stop.station) is) (w.departure.ensures ∙ ap departure is) in
+          let late = w.missed_at.ensures ∙ ap (missed_at arrivals k s.query.now) is in
           rw (w.fewest-is ∙ w.min-fewest.ensures ∙ ap (min l.fewest) late)
           (missed_more s.trains.now s.stops.now k s.query.now arrivals n l.stop-index l.fewest l.invariant (ap may_board (sym is) ∙ sym c.may_board.ensures ∙ w.if-may_board.true))
       | else-may_board w ↦
