@@ -22,7 +22,7 @@ use Rattle.connection.proofs.Onward.{settles_first_stop, settles_next_stop, sett
 use Rattle.connection.proofs.Times.{Punctual, on_time}
 use Rattle.search.specs.Ends.{ends_no_dearer, known_total, is_end, end_here, Known, NoDearer}
 use Rattle.search.specs.Layers.{row_of, Trail, Holds, Filled, UnchangedBelow, BlankFrom, RunAsked}
-use Rattle.search.specs.Notes.{noted as with_label, Noted}
+use Rattle.search.specs.Notes.{block, blocks, noted as with_label, Noted}
 use Rattle.search.specs.Records.{record_of, label_of}
 use Rattle.search.specs.Working.{number, place, layer_at, part_at, label_at, label_in, hopeless, beaten, if_promising, if_worth_following}
 use Rattle.search.specs.declared.ends.End.{End}
@@ -128,7 +128,7 @@ module _ {A : Type 0} (m : Meaning A) (q : Query) (rows : List TrainRow) (stops 
           go false e false f = h
 
     -- ---- one stop more
-    module _ (old new : List (WorkRecord A)) (i : ℕ) (found : Bool) (aboard KeptLabel : Option (Label A)) (now now' : Reached A) (state : FilledTo old new i found aboard now) (li : i < count) (room : start + i < length new) (few_records : start + i < 64 * 3072) (is_kept : KeptLabel ≡ if_worth_following m size new (place size s (row_of rows n i)) (known_total now.end) layer aboard) (next : List (WorkRecord A)) (is_next : next ≡ set new (start + i) (record_of KeptLabel)) (is_known : now'.end ≡ cheaper (ends_no_dearer m) now.end (end_here (is_end (stop_at stops (row_of rows n i)) q.destination) layer (place size s (row_of rows n i)) KeptLabel)) (is_noted : now'.notes ≡ with_label now.notes layer (place size s (row_of rows n i)) (start + i) KeptLabel) where
+    module _ (old new : List (WorkRecord A)) (i : ℕ) (found : Bool) (aboard KeptLabel : Option (Label A)) (now now' : Reached A) (state : FilledTo old new i found aboard now) (li : i < count) (room : start + i < length new) (few_records : start + i < block * blocks) (is_kept : KeptLabel ≡ if_worth_following m size new (place size s (row_of rows n i)) (known_total now.end) layer aboard) (next : List (WorkRecord A)) (is_next : next ≡ set new (start + i) (record_of KeptLabel)) (is_known : now'.end ≡ cheaper (ends_no_dearer m) now.end (end_here (is_end (stop_at stops (row_of rows n i)) q.destination) layer (place size s (row_of rows n i)) KeptLabel)) (is_noted : now'.notes ≡ with_label now.notes layer (place size s (row_of rows n i)) (start + i) KeptLabel) where
       abbrev known : Option (End A)
       known = now.end
 
@@ -222,7 +222,7 @@ module _ {A : Type 0} (m : Meaning A) (q : Query) (rows : List TrainRow) (stops 
           subst (λ (j : ℕ). Still runs j aboard') (sym (add-one i)) (subst (Still runs (suc i)) same goes)
 
     -- ---- a stop at which nobody is on board, and nobody boards
-    pub filled_left : (old new : List (WorkRecord A)) (i : ℕ) (found : Bool) (now : Reached A) → FilledTo old new i found None now → i < count → start + i < length new → start + i < 64 * 3072 → (c : Option (End A)) → NoDearer m c before.end → ((runs : Pairs) (best : Option (End A)) → NoDearer m c best → RunAsked q (train_row n rows) s true runs → Filled m runs q rows stops (known_total best) new layer → SettlesBoarding m trains runs q (Trail rows size new layer) (known_total best) layer n s i None) → FilledTo old new (i + 1) found None now
+    pub filled_left : (old new : List (WorkRecord A)) (i : ℕ) (found : Bool) (now : Reached A) → FilledTo old new i found None now → i < count → start + i < length new → start + i < block * blocks → (c : Option (End A)) → NoDearer m c before.end → ((runs : Pairs) (best : Option (End A)) → NoDearer m c best → RunAsked q (train_row n rows) s true runs → Filled m runs q rows stops (known_total best) new layer → SettlesBoarding m trains runs q (Trail rows size new layer) (known_total best) layer n s i None) → FilledTo old new (i + 1) found None now
     filled_left old new i found now state li room few_records c worse boards =
         let b = is_end (stop_at stops (row_of rows n i)) q.destination in
         let same : now.end ≡ cheaper (ends_no_dearer m) now.end (end_here b layer (place size s (row_of rows n i)) None) = cheaper_none (ends_no_dearer m) now.end ∙ ap (cheaper (ends_no_dearer m) now.end) (sym (no_end_here b layer (place size s (row_of rows n i)))) in

@@ -4,6 +4,7 @@ use Rattle.connection.specs.declared.ride.Shift.{Shift}
 use Rattle.connection.specs.declared.ride.Shift.TheVariants.{DayBefore, SameDay, DayAfter}
 use Rattle.search.specs.Working.{number, layer_at, part_at}
 use Rattle.search.proofs.RowsAreTrains.{place_below}
+use Rattle.search.specs.Notes.{block, blocks}
 
 -- a layer begins where the one before it ends
 pub next_layer : (size k : ℕ) → layer_at size (suc k) ≡ layer_at size k + 3 * size
@@ -35,5 +36,5 @@ part_within size layer s = omega (arith, third s, next_layer size layer, ap (lay
     third DayAfter = omega arith
 
 -- among so many records as there are in blocks
-pub few_records : (size layer : ℕ) (s : Shift) (row : ℕ) → row < size → size ≤ 4096 → layer ≤ 15 → part_at size layer s + row < 64 * 3072
+pub few_records : (size layer : ℕ) (s : Shift) (row : ℕ) → row < size → size ≤ 4096 → layer ≤ 15 → part_at size layer s + row < block * blocks
 few_records size layer s row h few shallow = omega (arith, record_below size layer s row h, layer_most size (layer + 1) (omega arith) few)

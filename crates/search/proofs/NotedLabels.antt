@@ -4,7 +4,7 @@ use Rattle.tariff.specs.Laws.{Connex, Transitive}
 use Rattle.tariff.specs.Meaning.{Meaning}
 use Rattle.connection.specs.declared.label.Label.{Label}
 use Rattle.search.specs.Layers.{BlankFrom}
-use Rattle.search.specs.Notes.{no_notes, for_next_layer, noted, Noted}
+use Rattle.search.specs.Notes.{block, blocks, no_notes, for_next_layer, noted, Noted}
 use Rattle.search.specs.Records.{record_of}
 use Rattle.search.specs.Working.{layer_at, beaten}
 use Rattle.search.specs.declared.notes.Notes.{Notes}
@@ -20,7 +20,7 @@ module _ {A : Type 0} (m : Meaning A) (size k : ℕ) where
       record { listed = listed_blank size k x y table n le blanks h.listed; elsewhere = h.elsewhere; latest = latest_blank m size k x y table n le blanks h.latest }
 
   -- ---- the record at a place is written, with a label, if there is one, that no earlier one there beats
-  pub noted_written : Connex m → Transitive m → (x at : ℕ) → at ≡ layer_at size k + x → x < 3 * size → 3 * size ≤ 12288 → at < 64 * 3072 → (old new : List (WorkRecord A)) → at < length old → (n : Notes) (o : Option (Label A)) → new ≡ set old at (record_of o) → ((l : Label A) → o ≡ Some l → beaten m size old x k l.total ≡ false) → Noted m size old k x n → Noted m size new k (x + 1) (noted n k x at o)
+  pub noted_written : Connex m → Transitive m → (x at : ℕ) → at ≡ layer_at size k + x → x < 3 * size → 3 * size ≤ 12288 → at < block * blocks → (old new : List (WorkRecord A)) → at < length old → (n : Notes) (o : Option (Label A)) → new ≡ set old at (record_of o) → ((l : Label A) → o ≡ Some l → beaten m size old x k l.total ≡ false) → Noted m size old k x n → Noted m size new k (x + 1) (noted n k x at o)
   noted_written connex transitive x at at_is far few_places few_records old new room n None is_new fresh h =
       record {
         listed = listed_none size k x at at_is old new room n h.listed is_new;

@@ -4,7 +4,7 @@ use Rattle.std.proofs.lemmas.Bool.{cases_lt}
 use Rattle.std.proofs.lemmas.List.{length-set, length-replicate}
 use Rattle.connection.specs.declared.label.Label.{Label}
 use Rattle.search.specs.Layers.{BlankFrom}
-use Rattle.search.specs.Notes.{no_notes, with_note, BlankElsewhere}
+use Rattle.search.specs.Notes.{block, blocks, no_notes, with_note, BlankElsewhere}
 use Rattle.search.specs.Records.{blank, record_of}
 use Rattle.search.specs.declared.notes.Notes.{Notes}
 use Rattle.search.specs.declared.record.WorkRecord.{WorkRecord}
@@ -16,7 +16,7 @@ module _ {A : Type 0} (at : ℕ) (old new : List (WorkRecord A)) (n : Notes) (h 
   pub elsewhere_none : at < length old → new ≡ set old at (record_of None) → BlankElsewhere new n
   elsewhere_none room is_new = record { long = h.long; blank = still }
     where
-      still : (z : ℕ) → get_or n.touched (z / 64) false ≡ false → get_or new z blank ≡ blank
+      still : (z : ℕ) → get_or n.touched (z / block) false ≡ false → get_or new z blank ≡ blank
       still z clear =
           elim (cases_lt z at) [
             | inl l ↦ let ne : z ≢ at = omega arith in same_record None is_new z ne ∙ h.blank z clear
@@ -27,14 +27,14 @@ module _ {A : Type 0} (at : ℕ) (old new : List (WorkRecord A)) (n : Notes) (h 
                 ]
           ]
 
-  module _ (k x : ℕ) (few_records : at < 64 * 3072) (l : Label A) (is_new : new ≡ set old at (record_of (Some l))) where
+  module _ (k x : ℕ) (few_records : at < block * blocks) (l : Label A) (is_new : new ≡ set old at (record_of (Some l))) where
     abbrev touched : List Bool
     touched = (with_note n k x at).touched
 
-    here : get_or touched (at / 64) false ≡ true
-    here = let block : at / 64 < length n.touched = omega (arith, h.long) in get_or-set_same n.touched (at / 64) true false block
+    here : get_or touched (at / block) false ≡ true
+    here = let inside : at / block < length n.touched = omega (arith, h.long) in get_or-set_same n.touched (at / block) true false inside
 
-    other_block : (z : ℕ) → get_or touched (z / 64) false ≡ false → z / 64 ≢ at / 64
+    other_block : (z : ℕ) → get_or touched (z / block) false ≡ false → z / block ≢ at / block
     other_block z clear e =
         let y : true ≡ false = sym here ∙ ap (λ b. get_or touched b false) (sym e) ∙ clear in
         absurd (let w : ◌≡◌ {A = ℕ} 0 1 = cc in omega arith)
@@ -42,11 +42,11 @@ module _ {A : Type 0} (at : ℕ) (old new : List (WorkRecord A)) (n : Notes) (h 
     pub elsewhere_some : BlankElsewhere new (with_note n k x at)
     elsewhere_some =
         record {
-          long = length-set n.touched (at / 64) true ∙ h.long;
+          long = length-set n.touched (at / block) true ∙ h.long;
           blank = λ z clear.
               let ne = other_block z clear in
-              same_record (Some l) is_new z (λ e. ne (ap (λ y. y / 64) e)) ∙ h.blank z (sym (get_or-set_other n.touched (at / 64) (z / 64) true false ne) ∙ clear);
+              same_record (Some l) is_new z (λ e. ne (ap (λ y. y / block) e)) ∙ h.blank z (sym (get_or-set_other n.touched (at / block) (z / block) true false ne) ∙ clear);
         }
 
 pub elsewhere_first : {A : Type 0} (table : List (WorkRecord A)) → BlankFrom 0 table → BlankElsewhere table no_notes
-elsewhere_first table blanks = record { long = length-replicate 3072 false; blank = λ z clear. blanks z (omega arith) }
+elsewhere_first table blanks = record { long = length-replicate blocks false; blank = λ z clear. blanks z (omega arith) }

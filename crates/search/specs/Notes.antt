@@ -8,8 +8,15 @@ use Rattle.search.specs.declared.notes.Notes.{Notes}
 use Rattle.search.specs.declared.record.WorkRecord.{WorkRecord}
 
 -- ---- what is noted
+-- how many records are one block, and how many blocks are in the longest table that is used
+abbrev pub block : ℕ
+block = 64
+
+abbrev pub blocks : ℕ
+blocks = 3072
+
 abbrev pub no_notes : Notes
-no_notes = record { places = replicate 12288 0; count = 0; touched = replicate 3072 false; latest = replicate 12288 None }
+no_notes = record { places = replicate 12288 0; count = 0; touched = replicate blocks false; latest = replicate 12288 None }
 
 -- the places of the next layer
 abbrev pub for_next_layer : Notes → Notes
@@ -21,7 +28,7 @@ with_note n k place at =
     record {
       places = slice_set n.places n.count place;
       count = n.count + 1;
-      touched = slice_set n.touched (at / 64) true;
+      touched = slice_set n.touched (at / block) true;
       latest = slice_set n.latest place (Some k);
     }
 
@@ -51,8 +58,8 @@ module _ {A : Type 0} where
 
   -- the records of blocks that are not touched are blank
   pub record BlankElsewhere (table : List (WorkRecord A)) (n : Notes) : Type 0 where
-    pub long : length n.touched ≡ 3072
-    pub blank : (z : ℕ) → slice_index_or n.touched (z / 64) false ≡ false → slice_index_or table z blank ≡ blank
+    pub long : length n.touched ≡ blocks
+    pub blank : (z : ℕ) → slice_index_or n.touched (z / block) false ≡ false → slice_index_or table z blank ≡ blank
 
 module _ {A : Type 0} (m : Meaning A) (size : ℕ) (table : List (WorkRecord A)) where
   -- the label at the place in that layer

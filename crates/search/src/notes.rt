@@ -4,7 +4,7 @@
 //     touched: block 0, ..        the blocks of the table in which one is written
 //     latest: place 4 -> layer 1, ..    the last layer with a label at the place, which is the cheapest one there
 ghost use Rattle.std.specs.Prelude.{◌≡◌, ◌*◌, ◌<◌, ◌≤◌, length, take};
-ghost use Rattle.search.specs.Notes.{no_notes, for_next_layer, with_note};
+ghost use Rattle.search.specs.Notes.{block, blocks, no_notes, for_next_layer, with_note};
 
 use crate::layer::Layer;
 
@@ -43,7 +43,7 @@ impl Notes {
     pub fn add(&mut self, layer: Layer, place: usize, at: usize)
         requires room { self.old.count < 12288 }
         requires placed { place < 12288 }
-        requires inside { at < 64 * 3072 }
+        requires inside { at < block * blocks }
         ensures { self.new ≡ with_note self.old layer.number place at }
     {
         self.places[self.count] = place as u16;

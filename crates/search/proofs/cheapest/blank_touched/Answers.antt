@@ -2,7 +2,7 @@ use Rattle.std.proofs.Common.{◌≡◌, ℕ, ◌+◌, ◌-◌, ◌≤◌, ◌/�
 use Rattle.std.proofs.lemmas.Bool.{cases_lt}
 use Rattle.std.proofs.lemmas.List.{get_or_past, length-take-le, length-drop}
 use borrow.Rule.Slice.PartMut.{put_mid}
-use Rattle.search.specs.Notes.{BlankElsewhere}
+use Rattle.search.specs.Notes.{block, BlankElsewhere}
 use Rattle.search.specs.Records.{blank}
 use Rattle.search.proofs.BlankRecords.{blanked, still_blank, part_blank}
 use Rattle.search.proofs.cheapest.blank_touched.Goals as goal
@@ -20,7 +20,7 @@ loop-block-preserved g c =
           let long : length (take k (drop a l.work)) ≡ k = length-take-le k (drop a l.work) (omega (arith, length-drop a l.work)) in
           let now = w.work-is ∙ ap (put_mid a k l.work) (w.blank_block.ensures ∙ ap (λ n. replicate n blank) long) in
           let still = λ (z : ℕ) (was : get_or l.work z blank ≡ blank). ap (λ t. get_or t z blank) now ∙ still_blank a k l.work room z was in (
-            λ z h. elim (cases_lt (z / 64) l.block) [
+            λ z h. elim (cases_lt (z / block) l.block) [
               | inl b ↦ still z (l.invariant.0 z b)
               | inr b ↦
                   elim (cases_lt z e) [
@@ -31,9 +31,9 @@ loop-block-preserved g c =
             record { long = l.invariant.1.long; blank = λ z clear. still z (l.invariant.1.blank z clear) },
           )
       | else-touched w ↦ (
-        λ z h. subst (λ t. get_or t z blank ≡ blank) (sym w.work-is) (elim (cases_lt (z / 64) l.block) [
+        λ z h. subst (λ t. get_or t z blank ≡ blank) (sym w.work-is) (elim (cases_lt (z / block) l.block) [
           | inl b ↦ l.invariant.0 z b
-          | inr b ↦ let e : l.block ≡ z / 64 = omega arith in l.invariant.1.blank z (ap (λ x. get_or c.args.notes.now.touched x false) (sym e) ∙ w.if-touched.false)
+          | inr b ↦ let e : l.block ≡ z / block = omega arith in l.invariant.1.blank z (ap (λ x. get_or c.args.notes.now.touched x false) (sym e) ∙ w.if-touched.false)
         ]),
         subst (λ t. BlankElsewhere t c.args.notes.now) (sym w.work-is) l.invariant.1,
       )
@@ -43,8 +43,8 @@ pub returns : goal.returns
 returns g c =
     let l = c.loop-block in
     blanked (length l.work) l.work (omega arith)
-    (λ z h. elim (cases_lt (z / 64) l.block) [
+    (λ z h. elim (cases_lt (z / block) l.block) [
       | inl b ↦ l.invariant.0 z b
-      | inr b ↦ l.invariant.1.blank z (get_or_past c.args.notes.now.touched (z / 64) false (omega (arith, l.invariant.1.long)))
+      | inr b ↦ l.invariant.1.blank z (get_or_past c.args.notes.now.touched (z / block) false (omega (arith, l.invariant.1.long)))
     ])
     ∙ ap (λ n. replicate n blank) l.auto.work

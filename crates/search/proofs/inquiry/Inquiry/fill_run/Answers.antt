@@ -9,7 +9,7 @@ use Rattle.connection.specs.declared.label.Label.{Label}
 use Rattle.search.specs.Chains.{may_be_caught}
 use Rattle.search.specs.Ends.{ends_no_dearer, known_total, is_end, end_here}
 use Rattle.search.specs.Layers.{row_of}
-use Rattle.search.specs.Notes.{noted}
+use Rattle.search.specs.Notes.{block, blocks, noted}
 use Rattle.search.specs.Records.{record_of}
 use Rattle.search.specs.Working.{number, layer_at, part_at, if_worth_following}
 use Rattle.search.proofs.Basis.{Basis, timetable_of}
@@ -98,7 +98,7 @@ loop-i-preserved-then-not-may_be_caught g c =
     let row = row_of s.trains.now n l.i in
     let below = record_below size layer day row (omega arith) in
     let room : part_at size layer day + (train_row n s.trains.now).first + l.i < length l.work = omega (arith, below) in
-    let few : part_at size layer day + (train_row n s.trains.now).first + l.i < 64 * 3072 = omega (arith, few_records size layer day row (omega arith) s.ordered.few_stops a.layer.shallow) in
+    let few : part_at size layer day + (train_row n s.trains.now).first + l.i < block * blocks = omega (arith, few_records size layer day row (omega arith) s.ordered.few_stops a.layer.shallow) in
     let stop_is = ap (λ x. stop_at x l.i) c.stops-stops.ensures ∙ own_stop s.trains.now s.stops.now s.ordered n l.i li in
     let gone = left_by a.arrivals.now layer s.query.now (stop_at s.stops.now row) day (ap (λ x. may_be_caught a.arrivals.now layer s.query.now x day) (sym stop_is) ∙ sym c.may_be_caught.ensures ∙ c.if-not-may_be_caught.true) in
     let end = a.reached.now.end in
@@ -130,7 +130,7 @@ loop-i-preserved g c =
     let spot = ap (λ x. x + l.i) c.place-place.ensures ∙ add_assoc (number a.run.shift * size) row.first l.i in
     let stop_is = ap (λ x. stop_at x l.i) c.stops-stops.ensures ∙ own_stop s.trains.now s.stops.now s.ordered n l.i li in
     let ends = λ (stop : StopRow) (x : ℕ). cheaper_of (ends_no_dearer m) l.reached.end (end_here (is_end stop s.query.now.destination) layer x c.if_worth_following-aboard.result) in
-    let few : part_at size layer a.run.shift + row.first + l.i < 64 * 3072 = omega (arith, few_records size layer a.run.shift (row_of s.trains.now n l.i) (omega arith) s.ordered.few_stops a.layer.shallow) in
+    let few : part_at size layer a.run.shift + row.first + l.i < block * blocks = omega (arith, few_records size layer a.run.shift (row_of s.trains.now n l.i) (omega arith) s.ordered.few_stops a.layer.shallow) in
     let known = c.keep.ensures.end ∙ ap₂ ends stop_is spot in
     let kept = c.if_worth_following-aboard.ensures ∙ ap (λ x. if_worth_following m size l.work x (known_total l.reached.end) layer l.aboard) spot in
     let at : layer_at (length s.stops.now) a.layer.number + (c.place-place.result + l.i) ≡ part_at (length s.stops.now) a.layer.number a.run.shift + row.first + l.i = omega (arith, c.place-place.ensures) in
