@@ -1,4 +1,4 @@
--- Where labels are written.
+-- Where labels are written. Nothing that is promised rests on these words.
 use Rattle.std.specs.Prelude.{◌≡◌, ℕ, zero, suc, ◌+◌, ◌*◌, ◌<◌, ◌≤◌, ◌/◌, true, false, cond, List, length, replicate, Some, None, Option, IfSome, slice_index_or, slice_set, nat_lt}
 use Rattle.tariff.specs.Meaning.{Meaning}
 use Rattle.connection.specs.declared.label.Label.{Label}

@@ -17,7 +17,7 @@ use connection::ride::Shift;
 use tariff::Tariff;
 
 impl<P: Tariff> Inquiry<'_, P> {
-    // Takes those that are promising. Whoever changes from another only ends up as dear as the known end.
+    // Takes those that are promising. Whoever changes from another ends up no cheaper than the known end.
     pub fn arrive(
         &self,
         work: &[WorkRecord<P::Total>],

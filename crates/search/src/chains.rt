@@ -1,6 +1,6 @@
 // The labels of a layer by station, so that who boards a train looks only at arrivals of its station.
 //
-//     heads: station 2 -> place 4, station 3 -> place 7, ..      the last place of the station with a label
+//     heads: station 2 -> place 4, station 3 -> place 7, ..      the last place of the station that was taken
 //     nexts: place 4 -> place 1, ..                              the one of the same station ahead of it
 //     minutes: place 4 -> minute 1980, ..                        when who is on board comes to the station
 //     earliest: station 2 -> minute 1930, ..                     when somebody comes there first

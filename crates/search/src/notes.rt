@@ -20,6 +20,7 @@ pub struct Notes {
 }
 
 impl Notes {
+    // Nothing is written yet.
     pub fn none() -> Notes
         ensures { result ≡ no_notes }
     {

@@ -23,6 +23,7 @@ impl<P: Tariff> Inquiry<'_, P> {
         ensures each { length result ≡ 512 }
     {
         let mut missed_by = [0; 512];
+        // by number: what is written through a zip with the trains is lost to the proof
         for n in 0..self.trains.len() {
             missed_by[n] = self.minutes_missed(layer, arrivals, n);
         }
