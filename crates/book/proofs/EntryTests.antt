@@ -4,6 +4,7 @@ use Rattle.std.proofs.lemmas.Bool.{leb-true}
 use Rattle.book.specs.declared.rows.StopRow.{StopRow}
 use Rattle.book.specs.declared.rows.TrainRow.{TrainRow}
 use Rattle.book.specs.declared.state.Entry.{Entry}
+use Rattle.book.specs.Limits.{most_stops_of_train, most_trains, most_stops}
 use Rattle.book.specs.Room.{room}
 use Rattle.book.specs.Stops.{few, in_order}
 use Rattle.book.specs.Trains.{open_stops, holds, entry_holds}
@@ -22,8 +23,8 @@ module _ (e : Entry) (ts : List TrainRow) (ss : List StopRow) where
   pub entry_tests : entry_holds e ts ss ≡ (holds e.book.trains e.book.stops ts ss && room e (length ts) (length ss)) && in_order None (open_stops e ss)
   unfolding entry_holds
   entry_tests =
-      sorted (holds e.book.trains e.book.stops ts ss) (ltb e.book.trains 512) (ltb e.book.trains (length ts)) (leb (e.book.stops + e.taken) 4096) (leb (e.book.stops + e.taken) (length ss))
-      (few (open_stops e ss)) (leb e.taken 64) (in_order None (open_stops e ss)) (λ fits. ap (λ n. leb n 64) (length_open e ss (leb-true _ _ fits)))
+      sorted (holds e.book.trains e.book.stops ts ss) (ltb e.book.trains most_trains) (ltb e.book.trains (length ts)) (leb (e.book.stops + e.taken) most_stops) (leb (e.book.stops + e.taken) (length ss))
+      (few (open_stops e ss)) (leb e.taken most_stops_of_train) (in_order None (open_stops e ss)) (λ fits. ap (λ n. leb n most_stops_of_train) (length_open e ss (leb-true _ _ fits)))
 
   pub entry_without_book : false ≡ holds e.book.trains e.book.stops ts ss → false ≡ entry_holds e ts ss
   entry_without_book h = sym (entry_tests ∙ ap (λ b. (b && room e (length ts) (length ss)) && in_order None (open_stops e ss)) (sym h))

@@ -1,5 +1,5 @@
 -- What holds of the row that `withdraw` takes out.
-use Rattle.std.proofs.Common.{◌≡◌, ℕ, ◌+◌, ◌<◌, ◌≤◌, List, length, take, None, Ok, sym, arith, length-take-le, get_or-take}
+use Rattle.std.proofs.Common.{◌≡◌, ℕ, ◌+◌, ◌<◌, ◌≤◌, List, length, take, None, Ok, arith, length-take-le, get_or-take}
 use Rattle.book.specs.declared.rows.StopRow.{StopRow}
 use Rattle.book.specs.declared.rows.TrainRow.{TrainRow}
 use Rattle.book.specs.declared.state.Book.{Book}
@@ -8,7 +8,8 @@ use Rattle.book.specs.Refusals.{withdraw_refusal}
 use Rattle.book.proofs.Walk.{no_row}
 use Rattle.book.proofs.Held.{Held, held}
 use Rattle.book.proofs.Gaps.{row_within, row_later}
-use Rattle.book.proofs.RefusalTests.{given, withdraw_held, withdraw_passed}
+use Rattle.book.proofs.RefusalTests.{withdraw_held, withdraw_passed}
+use Rattle.book.proofs.RefusedBy.{given}
 
 pub record Found (b : Book) (trains : List TrainRow) (stops : List StopRow) (k : ℕ) : Type 0 where
   pub book : Held b.trains b.stops trains stops
@@ -20,7 +21,7 @@ module _ (b : Book) (trains : List TrainRow) (stops : List StopRow) (n : ℕ) (p
   pub found_place : Found b trains stops (place n (take b.trains trains))
   found_place =
       let k = place n (take b.trains trains) in
-      let h = held b.trains b.stops trains stops (sym (withdraw_held b trains stops n passed)) in
+      let h = held b.trains b.stops trains stops (withdraw_held b trains stops n passed) in
       let lt : k < b.trains = withdraw_passed b trains stops n passed in
       let len : length (take b.trains trains) ≡ b.trains = length-take-le b.trains trains h.trains_fit in
       let same : train_row k (take b.trains trains) ≡ train_row k trains = get_or-take b.trains trains k no_row lt in

@@ -5,13 +5,14 @@ use Rattle.std.proofs.lemmas.Bool.{and_parts, and_from, leb-true, ltb-true, eqb-
 use Rattle.book.specs.declared.rows.StopRow.{StopRow}
 use Rattle.book.specs.declared.rows.TrainRow.{TrainRow}
 use Rattle.book.specs.declared.state.Entry.{Entry}
+use Rattle.book.specs.Limits.{most_trains, most_stops}
 use Rattle.book.specs.Stops.{few, in_order}
 use Rattle.book.specs.Trains.{all_sound, gapless, trains_in, train_at, listed, open_stops, holds, entry_holds, all_stops}
 
 pub record Held (n s : ℕ) (trains : List TrainRow) (stops : List StopRow) : Type 0 where
-  pub few_trains : n ≤ 512
+  pub few_trains : n ≤ most_trains
   pub trains_fit : n ≤ length trains
-  pub few_stops : s ≤ 4096
+  pub few_stops : s ≤ most_stops
   pub stops_fit : s ≤ length stops
   pub no_gap : gapless 0 s (take n trains) ≡ true
   pub are_sound : all_sound (listed n trains stops) ≡ true
@@ -36,7 +37,7 @@ held n s trains stops h =
 pub hold_from : (n s : ℕ) (trains : List TrainRow) (stops : List StopRow) → Held n s trains stops → holds n s trains stops ≡ true
 unfolding holds
 hold_from n s trains stops k =
-    and_from _ _ (and_from _ _ (and_from _ _ (and_from _ _ (le-leb n 512 k.few_trains) (le-leb n (length trains) k.trains_fit)) (le-leb s 4096 k.few_stops)) (le-leb s (length stops) k.stops_fit))
+    and_from _ _ (and_from _ _ (and_from _ _ (and_from _ _ (le-leb n most_trains k.few_trains) (le-leb n (length trains) k.trains_fit)) (le-leb s most_stops k.few_stops)) (le-leb s (length stops) k.stops_fit))
     (and_from _ _ k.no_gap k.are_sound)
 
 -- no row is in use: whatever the tables are, they hold that
@@ -46,9 +47,9 @@ none_held trains stops =
 
 pub record EntryHeld (e : Entry) (trains : List TrainRow) (stops : List StopRow) : Type 0 where
   pub book : holds e.book.trains e.book.stops trains stops ≡ true
-  pub few_trains : e.book.trains < 512
+  pub few_trains : e.book.trains < most_trains
   pub trains_fit : e.book.trains < length trains
-  pub few_stops : e.book.stops + e.taken ≤ 4096
+  pub few_stops : e.book.stops + e.taken ≤ most_stops
   pub stops_fit : e.book.stops + e.taken ≤ length stops
   pub few_taken : few (open_stops e stops) ≡ true
   pub taken_in_order : in_order None (open_stops e stops) ≡ true
@@ -75,8 +76,8 @@ entry_held e trains stops h =
 pub entry_hold_from : (e : Entry) (trains : List TrainRow) (stops : List StopRow) → EntryHeld e trains stops → entry_holds e trains stops ≡ true
 unfolding entry_holds
 entry_hold_from e trains stops k =
-    and_from _ _ (and_from _ _ (and_from _ _ (and_from _ _ (and_from _ _ k.book (lt-ltb e.book.trains 512 k.few_trains)) (lt-ltb e.book.trains (length trains) k.trains_fit))
-    (le-leb (e.book.stops + e.taken) 4096 k.few_stops)) (le-leb (e.book.stops + e.taken) (length stops) k.stops_fit))
+    and_from _ _ (and_from _ _ (and_from _ _ (and_from _ _ (and_from _ _ k.book (lt-ltb e.book.trains most_trains k.few_trains)) (lt-ltb e.book.trains (length trains) k.trains_fit))
+    (le-leb (e.book.stops + e.taken) most_stops k.few_stops)) (le-leb (e.book.stops + e.taken) (length stops) k.stops_fit))
     (and_from _ _ k.few_taken k.taken_in_order)
 
 pub length_listed : (n : ℕ) (trains : List TrainRow) (stops : List StopRow) → n ≤ length trains → length (listed n trains stops) ≡ n

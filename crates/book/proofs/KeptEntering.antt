@@ -7,6 +7,7 @@ use Rattle.book.specs.declared.rows.TrainRow.{TrainRow}
 use Rattle.book.specs.declared.state.Book.{Book}
 use Rattle.book.specs.declared.state.Entry.{Entry}
 use Rattle.book.specs.declared.refusal.Refusal.{Refusal}
+use Rattle.book.specs.Limits.{most_stops_of_train}
 use Rattle.book.specs.Stops.{in_order, sound}
 use Rattle.book.specs.Trains.{Train, all_sound, gapless, trains_in, train_at, listed, open_train, open_stops, holds, entry_holds}
 use Rattle.book.specs.Answers.{unless, refused_or, longer, finished_row, begin_answer, stop_answer, stop_rows, finish_answer, finish_rows, abandon_answer}
@@ -14,10 +15,10 @@ use Rattle.book.specs.Refusals.{begin_refusal, stop_refusal, finish_refusal}
 use Rattle.book.proofs.Held.{held, hold_from, entry_held, entry_hold_from, length_open}
 use Rattle.book.proofs.Pushed.{in_order_push, all_sound_push, gapless_append, gapless_one, open_more}
 use Rattle.book.proofs.Windows.{trains_set}
-use Rattle.book.proofs.RefusalTests.{begin_held, begin_passed, stop_held, stop_passed, finish_held, finish_passed}
+use Rattle.book.proofs.RefusalTests.{begin_same, begin_held, begin_passed, stop_same, stop_held, stop_passed, finish_same, finish_held, finish_passed}
 use Rattle.book.specs.Histories.{Closed, begun, stopped, finished}
 use Rattle.book.specs.PlainList.{begins, stops, finishes, reads, InForce, none_open, with_open, fresh, lengthened}
-use Rattle.book.proofs.KeptState.{Kept, next, begin_same, stop_same, finish_same}
+use Rattle.book.proofs.KeptState.{Kept, next}
 
 -- ---- begin
 entered : Book → ℕ → ℕ → ℕ → Entry
@@ -26,7 +27,7 @@ entered b n c x = record { book = b; number = n; code = c; features = x; taken =
 entered_held : (b : Book) (ts : List TrainRow) (ss : List StopRow) (n c x : ℕ) → begin_refusal b ts ss n ≡ None → entry_holds (entered b n c x) ts ss ≡ true
 unfolding entered
 entered_held b ts ss n c x passed =
-    let h = sym (begin_held b ts ss n passed) in
+    let h = begin_held b ts ss n passed in
     let k = held b.trains b.stops ts ss h in
     let p = begin_passed b ts ss n passed in
     entry_hold_from (entered b n c x) ts ss (record {
@@ -88,13 +89,13 @@ module _ (e : Entry) (ts : List TrainRow) (ss : List StopRow) (s : StopRow) wher
         trains_fit = j.trains_fit;
         few_stops = omega (arith, p.2);
         stops_fit = fit;
-        few_taken = le-leb (length (open_stops (longer e) written)) 64 (omega (arith, length_open (longer e) written fit, p.1));
+        few_taken = le-leb (length (open_stops (longer e) written)) most_stops_of_train (omega (arith, length_open (longer e) written fit, p.1));
         taken_in_order = subst (λ (xs : List StopRow). in_order None xs ≡ true) (sym opened) (in_order_push None (open_stops e ss) s j.taken_in_order p.0);
       })
 
   pub stop_holds : stop_refusal e ts ss s ≡ None → entry_holds (longer e) ts (set ss (e.book.stops + e.taken) s) ≡ true
   unfolding written
-  stop_holds passed = longer_held (sym (stop_held e ts ss s passed)) passed
+  stop_holds passed = longer_held (stop_held e ts ss s passed) passed
 
   stop_step : (r : Option Refusal) → entry_holds e ts ss ≡ true → eqb e.number 0 ≡ false → stop_refusal e ts ss s ≡ r
       → Kept (length ts) (length ss) (unless r (with_open (listed e.book.trains ts ss) (open_train e ss)) (with_open (listed e.book.trains ts ss) (lengthened (open_train e ss) s)))
@@ -153,7 +154,7 @@ module _ (e : Entry) (ts : List TrainRow) (ss : List StopRow) where
 
   pub finish_holds : eqb e.number 0 ≡ false → finish_refusal e ts ss ≡ None → holds (e.book.trains + 1) (e.book.stops + e.taken) (set ts e.book.trains (finished_row e)) ss ≡ true
   unfolding filled
-  finish_holds num passed = finished_held (sym (finish_held e ts ss passed)) num passed
+  finish_holds num passed = finished_held (finish_held e ts ss passed) num passed
 
   finish_step : (r : Option Refusal) → entry_holds e ts ss ≡ true → eqb e.number 0 ≡ false → finish_refusal e ts ss ≡ r
       → Kept (length ts) (length ss) (unless r (with_open (listed e.book.trains ts ss) (open_train e ss)) (none_open (listed e.book.trains ts ss ++ (open_train e ss ∷ []))))

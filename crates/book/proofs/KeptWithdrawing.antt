@@ -17,7 +17,8 @@ use Rattle.book.proofs.Found.{Found, found_place}
 use Rattle.book.proofs.Removed.{length_closed_up, take_closed_up, before_closed, after_closed, gapless_parts, without_is, all_sound_without}
 use Rattle.book.specs.Histories.{withdrawn_to}
 use Rattle.book.specs.PlainList.{withdraws, InForce, none_open, without}
-use Rattle.book.proofs.KeptState.{Kept, next, withdraw_same}
+use Rattle.book.proofs.KeptState.{Kept, next}
+use Rattle.book.proofs.RefusalTests.{withdraw_same}
 
 -- ---- withdraw
 module _ (b : Book) (ts : List TrainRow) (ss : List StopRow) (n : ℕ) where

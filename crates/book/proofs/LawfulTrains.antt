@@ -8,12 +8,12 @@ use Rattle.book.specs.declared.refusal.Refusal.{Refusal}
 use Rattle.book.specs.Trains.{Train, all_sound, listed, holds, known}
 use Rattle.book.specs.Rules.{Rules}
 use Rattle.book.specs.Answers.{unless}
-use Rattle.book.specs.Refusals.{begin_fault, next_fault, finish_fault, withdraw_fault}
+use Rattle.book.specs.Refusals.{begin_reasons, begin_fault, next_fault, finish_fault, withdraw_fault}
 use Rattle.book.specs.Histories.{State, Closed, Open, number_at, Lawful, EveryHistoryIsLawful}
 use Rattle.book.specs.PlainList.{Call, begins, stops, finishes, abandons, withdraws, reads, InForce, none_open, with_open, without, fresh, lengthened, advance, after, in_force}
 use Rattle.book.proofs.Held.{held, entry_held, length_listed, all_stops_held}
 use Rattle.book.proofs.SoundIsRules.{sound_is_the_rules}
-use Rattle.book.proofs.RefusalTests.{no_fault, not_when}
+use Rattle.book.proofs.FirstReason.{none_holds}
 use Rattle.book.proofs.KeptState.{Kept}
 use Rattle.book.proofs.KeptHistories.{kept}
 
@@ -66,7 +66,7 @@ Apart f = (distinct f.trains ≡ true) × Fresh f.opened f.trains
 module _ (tr sr : ℕ) (ts : List Train) (d : distinct ts ≡ true) where
   begun_apart : (n c x : ℕ) (r : Option Refusal) → begin_fault tr ts n ≡ r → Apart (unless r (none_open ts) (with_open ts (fresh n c x)))
   begun_apart n c x (Some e) h = (d, tt)
-  begun_apart n c x None h = (d, not_when _ _ (no_fault _ _ (no_fault _ _ h).1).0)
+  begun_apart n c x None h = (d, (none_holds (begin_reasons tr ts n) h).1.0)
 
   stopped_apart : (t : Train) (s : StopRow) (r : Option Refusal) → known t.number ts ≡ false → Apart (unless r (with_open ts t) (with_open ts (lengthened t s)))
   stopped_apart t s (Some e) k = (d, k)

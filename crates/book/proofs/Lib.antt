@@ -1,6 +1,7 @@
 mod Continued
 mod EntryTests
 mod FewCalls
+pub mod FirstReason
 mod Found
 mod Gaps
 mod Held
@@ -14,6 +15,7 @@ mod Places
 mod Pushed
 mod RefusalTests
 mod RefusalsAgree
+pub mod RefusedBy
 mod Removed
 mod SoundIsRules
 mod StopOrder

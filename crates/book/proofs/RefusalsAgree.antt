@@ -7,7 +7,8 @@ use Rattle.book.specs.Trains.{holds, listed, open_train}
 use Rattle.book.specs.declared.rows.StopRow.{StopRow}
 use Rattle.book.specs.declared.rows.TrainRow.{TrainRow}
 use Rattle.book.specs.declared.state.Book.{Book}
-use Rattle.book.proofs.KeptState.{Kept, begin_same, stop_same, finish_same, withdraw_same}
+use Rattle.book.proofs.KeptState.{Kept}
+use Rattle.book.proofs.RefusalTests.{begin_same, stop_same, finish_same, withdraw_same}
 use Rattle.book.proofs.KeptHistories.{kept}
 
 read_same : (b : Book) (ts : List TrainRow) (ss : List StopRow) → holds b.trains b.stops ts ss ≡ true → check_refusal b ts ss ≡ None

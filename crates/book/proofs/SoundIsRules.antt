@@ -1,17 +1,18 @@
 -- `sound` is the rules.
-use Rattle.std.proofs.Common.{◌≡◌, ℕ, zero, suc, ◌-◌, ◌<◌, ◌≤◌, Bool, true, false, ltb, List, [], ◌∷◌, length, is_some, Some, None, Option, sym, refl, ap, subst, arith}
+use Rattle.std.proofs.Common.{◌≡◌, ℕ, zero, suc, ◌-◌, ◌<◌, ◌≤◌, true, false, ltb, List, [], ◌∷◌, length, is_some, Some, None, Option, sym, refl, ap, subst, arith}
 use Rattle.std.proofs.lemmas.Bool.{and_parts, and_from, or_parts, or_from, not-true, not-false, not_from_true, not_from_false, eqb-false, ne_eqb, ltb-false, le-ltb, leb-false, lt-leb, leb-true, le-leb, both_ways}
 use Rattle.book.specs.declared.rows.StopRow.{StopRow}
 use Rattle.book.specs.declared.rows.Departure.{Departure}
-use Rattle.book.specs.declared.refusal.Refusal.{Refusal}
-use Rattle.book.specs.Stops.{when, or_else, ended, same_station, wrong_times, late, leaves, left_at, before_it, not_after, stop_fault, in_order, last_of, sound}
+use Rattle.book.specs.Limits.{last_station, last_minute, most_stops_of_train}
+use Rattle.book.specs.Stops.{ended, same_station, wrong_times, late, leaves, left_at, before_it, not_after, stop_reasons, stop_fault, in_order, last_of, sound}
 use Rattle.book.specs.Rules.{stop_at, Rules, SoundIsTheRules}
+use Rattle.book.proofs.FirstReason.{none_holds}
 use Rattle.book.proofs.StopOrder.{no_stop, last_of_is}
 
 -- ---- one stop
 record Fits (before : Option StopRow) (s : StopRow) : Type 0 where
   opened : ended before ≡ false
-  known : ltb 1023 s.station ≡ false
+  known : ltb last_station s.station ≡ false
   elsewhere : same_station before s ≡ false
   timed : wrong_times before s ≡ false
   late_in : late s.arrive ≡ false
@@ -19,29 +20,22 @@ record Fits (before : Option StopRow) (s : StopRow) : Type 0 where
   waited : before_it s.arrive (leaves s.depart) ≡ false
   rode : not_after (left_at before) s.arrive ≡ false
 
-no_fault : (a b : Option Refusal) → is_some (or_else a b) ≡ false → (is_some a ≡ false) × (is_some b ≡ false)
-no_fault (Some x) b e = absurd (cc)
-no_fault None b e = (refl, e)
-
-not_when : (b : Bool) (x : Refusal) → is_some (when b x) ≡ false → b ≡ false
-not_when true x e = absurd (cc)
-not_when false x e = refl
+none : {A : Type 0} (o : Option A) → is_some o ≡ false → o ≡ None
+none None h = refl
+none (Some x) h = absurd (cc)
 
 fits : (before : Option StopRow) (s : StopRow) → is_some (stop_fault before s) ≡ false → Fits before s
 unfolding stop_fault
 fits before s h =
-    let a = no_fault _ _ h in
-    let b = no_fault _ _ a.1 in
-    let c = no_fault _ _ b.1 in
-    let d = no_fault _ _ c.1 in
-    let bad = or_parts _ _ (not_when _ _ d.1) in
+    let p = none_holds (stop_reasons before s) (none _ h) in
+    let bad = or_parts _ _ p.1.1.1.1.0 in
     let bad2 = or_parts _ _ bad.0 in
     let bad3 = or_parts _ _ bad2.0 in
     record {
-      opened = not_when _ _ a.0;
-      known = not_when _ _ b.0;
-      elsewhere = not_when _ _ c.0;
-      timed = not_when _ _ d.0;
+      opened = p.0;
+      known = p.1.0;
+      elsewhere = p.1.1.0;
+      timed = p.1.1.1.0;
       late_in = bad3.0;
       late_out = bad3.1;
       waited = bad2.1;
@@ -77,17 +71,13 @@ all_fit b (s ∷ ss) each =
     (all_fit (Some s) ss (λ i l. subst (λ (p : Option StopRow). Fits p (stop_at ss i)) (sym (before_on b s ss i)) (each (suc i) (omega arith))))
 
 -- ---- what a test of a minute says
-none : {A : Type 0} (o : Option A) → is_some o ≡ false → o ≡ None
-none None h = refl
-none (Some x) h = absurd (cc)
-
-not_late : (o : Option ℕ) → ((m : ℕ) → o ≡ Some m → m ≤ 2879) → late o ≡ false
+not_late : (o : Option ℕ) → ((m : ℕ) → o ≡ Some m → m ≤ last_minute) → late o ≡ false
 not_late None h = refl
-not_late (Some m) h = le-ltb 2879 m (h m refl)
+not_late (Some m) h = le-ltb last_minute m (h m refl)
 
-not_late_out : (o : Option Departure) → ((d : Departure) → o ≡ Some d → d.minute ≤ 2879) → late (leaves o) ≡ false
+not_late_out : (o : Option Departure) → ((d : Departure) → o ≡ Some d → d.minute ≤ last_minute) → late (leaves o) ≡ false
 not_late_out None h = refl
-not_late_out (Some d) h = le-ltb 2879 d.minute (h d refl)
+not_late_out (Some d) h = le-ltb last_minute d.minute (h d refl)
 
 waited_from : (a : Option ℕ) (o : Option Departure) → ((m : ℕ) (d : Departure) → a ≡ Some m → o ≡ Some d → m ≤ d.minute) → before_it a (leaves o) ≡ false
 waited_from None None h = refl
@@ -141,7 +131,7 @@ unfolding before_at
 rules_fit n ss r zero l =
     record {
       opened = refl;
-      known = le-ltb 1023 _ (r.stations 0 l);
+      known = le-ltb last_station _ (r.stations 0 l);
       elsewhere = refl;
       timed = or_from _ _ (ap is_some r.no_first_arrival) (not_from_true _ (r.departs 0 (omega (arith, r.several))));
       late_in = not_late _ (λ m e. r.arrives_in_time 0 m l e);
@@ -152,7 +142,7 @@ rules_fit n ss r zero l =
 rules_fit n ss r (suc i) l =
     record {
       opened = not_from_true _ (r.departs i l);
-      known = le-ltb 1023 _ (r.stations (suc i) l);
+      known = le-ltb last_station _ (r.stations (suc i) l);
       elsewhere = ne_eqb _ _ (r.apart i l);
       timed = not_from_true _ (r.arrives i l);
       late_in = not_late _ (λ m e. r.arrives_in_time (suc i) m l e);
@@ -166,7 +156,7 @@ unfolding sound
 rules_sound n ss r =
     let last : ended (last_of None ss) ≡ true
     = rw (last_of_is None ss no_stop (omega (arith, r.several))) (not_from_false _ (ap is_some r.no_last_departure)) in
-    and_from _ _ (and_from _ _ (and_from _ _ (not_from_false _ (ne_eqb n 0 r.numbered)) (le-leb (length ss) 64 r.not_many)) (all_fit None ss (rules_fit n ss r))) last
+    and_from _ _ (and_from _ _ (and_from _ _ (not_from_false _ (ne_eqb n 0 r.numbered)) (le-leb (length ss) most_stops_of_train r.not_many)) (all_fit None ss (rules_fit n ss r))) last
 
 pub sound_is_the_rules : SoundIsTheRules
 sound_is_the_rules n ss = (sound_rules n ss, rules_sound n ss)

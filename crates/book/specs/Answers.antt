@@ -15,7 +15,7 @@ refused_or (Some reason) taken given = Err (record { back = taken; refusal = rea
 refused_or None taken given = Ok given
 
 -- .. and leaves the rows as they were
-abbrev pub unless : {A : Type 0} → Option Refusal → A → A → A
+abbrev pub unless : {A R : Type 0} → Option R → A → A → A
 unless (Some reason) old new = old
 unless None old new = new
 
@@ -23,16 +23,17 @@ unless None old new = new
 abbrev pub new_book : Book
 new_book = record { trains = 0; stops = 0 }
 
--- ---- check
-abbrev pub ok_unless : Option Refusal → Result (Unit {0}) Refusal
-ok_unless (Some reason) = Err reason
-ok_unless None = Ok tt
-
--- what was asked for, unless the call is refused
-abbrev pub given_unless : {A : Type 0} → Option Refusal → A → Result A Refusal
+-- what was asked for, unless there is a reason to refuse it
+abbrev pub given_unless : {A R : Type 0} → Option R → A → Result A R
 given_unless (Some reason) given = Err reason
 given_unless None given = Ok given
 
+-- leave, unless there is one
+abbrev pub ok_unless : {R : Type 0} → Option R → Result (Unit {0}) R
+ok_unless (Some reason) = Err reason
+ok_unless None = Ok tt
+
+-- ---- check
 abbrev pub check_answer : Book → List TrainRow → List StopRow → Result (Unit {0}) Refusal
 check_answer b trains stops = ok_unless (check_refusal b trains stops)
 

@@ -2,6 +2,7 @@ pub mod Answers
 pub mod Histories
 pub mod Limits
 pub mod PlainList
+pub mod Reasons
 pub mod Refusals
 pub mod Room
 pub mod Rules

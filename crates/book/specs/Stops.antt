@@ -1,20 +1,11 @@
 -- The rules of a train's stops, one stop after another: what a stop may be after the stop before it.
 use Rattle.std.specs.Prelude.{ℕ, Bool, true, false, not, ◌&&◌, ◌||◌, List, [], ◌∷◌, length, is_some, Some, None, Option, ◌==◌, nat_le, nat_lt}
 use Rattle.book.specs.Limits.{last_station, last_minute, most_stops_of_train}
+use Rattle.book.specs.Reasons.{first_of}
 use Rattle.book.specs.declared.refusal.Refusal.{Refusal}
 use Rattle.book.specs.declared.refusal.Refusal.TheVariants.{PastLast, NoStation, SameStation, WrongTimes, BadTime}
 use Rattle.book.specs.declared.rows.Departure.{Departure}
 use Rattle.book.specs.declared.rows.StopRow.{StopRow}
-
--- a reason to refuse, where the test says so
-abbrev pub when : Bool → Refusal → Option Refusal
-when true reason = Some reason
-when false reason = None
-
--- of several reasons the earliest
-abbrev pub or_else : Option Refusal → Option Refusal → Option Refusal
-or_else (Some reason) next = Some reason
-or_else None next = next
 
 -- ---- `before` is the stop before, if there is one
 -- the train has come to its last stop
@@ -61,14 +52,19 @@ abbrev pub bad_time : Option StopRow → StopRow → Bool
 bad_time before s =
     late s.arrive || late (leaves s.depart) || before_it s.arrive (leaves s.depart) || not_after (left_at before) s.arrive
 
--- what is wrong with the stop s after the stop `before`
+-- what may be wrong with the stop s after the stop `before`
+abbrev pub stop_reasons : Option StopRow → StopRow → List (Bool × Refusal)
+stop_reasons before s =
+    (ended before, PastLast)
+    ∷ (nat_lt last_station s.station, NoStation)
+    ∷ (same_station before s, SameStation)
+    ∷ (wrong_times before s, WrongTimes)
+    ∷ (bad_time before s, BadTime)
+    ∷ []
+
+-- what is wrong with it
 unfoldable pub stop_fault : Option StopRow → StopRow → Option Refusal
-stop_fault before s =
-    or_else (when (ended before) PastLast)
-    (or_else (when (nat_lt last_station s.station) NoStation)
-    (or_else (when (same_station before s) SameStation)
-    (or_else (when (wrong_times before s) WrongTimes)
-    (when (bad_time before s) BadTime))))
+stop_fault before s = first_of (stop_reasons before s)
 
 -- ---- all stops of a train
 abbrev pub in_order : Option StopRow → List StopRow → Bool

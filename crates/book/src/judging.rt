@@ -9,6 +9,7 @@ ghost use Rattle.book.specs.declared.rows.StopRow.{StopRow};
 ghost use Rattle.book.specs.declared.rows.TrainRow.{TrainRow};
 
 use crate::limits::{MOST_STOPS, MOST_STOPS_OF_TRAIN, MOST_TRAINS};
+use crate::reasons::first_of;
 use crate::refusal::Refusal;
 use crate::rows::{StopRow, TrainRow};
 use crate::rules::{has_ended, last_of, may_follow};
@@ -28,16 +29,13 @@ impl Book {
         ensures { (stops : List StopRow) → holds self.now.trains self.now.stops trains.now stops ≡ true → result ≡ ok_unless (begin_refusal self.now trains.now stops number) }
     {
         let used = self.trains as usize;
-        if number == 0 {
-            return Err(Refusal::ZeroNumber);
-        }
-        if place_of(number, &trains[..used]).is_some() {
-            return Err(Refusal::KnownNumber);
-        }
-        if used >= MOST_TRAINS as usize || used >= trains.len() {
-            return Err(Refusal::NoTrainRow);
-        }
-        Ok(())
+        let is_known = place_of(number, &trains[..used]).is_some();
+        let is_full = used >= MOST_TRAINS as usize || used >= trains.len();
+        first_of(&[
+            (number == 0, Refusal::ZeroNumber),
+            (is_known, Refusal::KnownNumber),
+            (is_full, Refusal::NoTrainRow),
+        ])
     }
 
     pub(crate) fn may_begin(

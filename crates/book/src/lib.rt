@@ -22,6 +22,7 @@ pub mod lending;
 pub mod limits;
 mod moves;
 pub mod reading;
+pub mod reasons;
 pub mod refusal;
 pub mod rows;
 mod rules;

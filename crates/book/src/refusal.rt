@@ -14,19 +14,19 @@ pub enum Refusal {
     ZeroNumber,
     // begin: the number is in the book
     KnownNumber,
-    // begin: 512 trains are in use, or the train table has no unused row
+    // begin: MOST_TRAINS are in use, or the train table has no unused row
     NoTrainRow,
     // stop: the entry already has a stop without departure
     PastLast,
-    // stop: the station is above 1,023
+    // stop: the station is above LAST_STATION
     NoStation,
     // stop: the station is that of the stop before
     SameStation,
     // stop: a first stop with an arrival or without a departure, or a later one without an arrival
     WrongTimes,
-    // stop: a time is above 2,879 or out of order
+    // stop: a time is above LAST_MINUTE or out of order
     BadTime,
-    // stop: the entry has 64 stops, 4,096 are in use with it, or the stop table has no unused row
+    // stop: the entry has MOST_STOPS_OF_TRAIN, MOST_STOPS are in use with it, or the stop table has no unused row
     NoStopRow,
     // finish: the entry has no stop without departure
     Unfinished,

@@ -4,6 +4,7 @@ ghost use Rattle.book.specs.Answers.{ok_unless};
 ghost use Rattle.book.specs.Stops.{ended, same_station, wrong_times, late, leaves, left_at, before_it, not_after, bad_time, stop_fault, in_order, last_of, sound};
 
 use crate::limits::{LAST_MINUTE, LAST_STATION, MOST_STOPS_OF_TRAIN};
+use crate::reasons::first_of;
 use crate::refusal::Refusal;
 use crate::rows::{Departure, StopRow};
 
@@ -68,19 +69,13 @@ fn has_bad_time(before: Option<StopRow>, stop: StopRow) -> bool
 pub fn may_follow(before: Option<StopRow>, stop: StopRow) -> Result<(), Refusal>
     ensures { result ≡ ok_unless (stop_fault before stop) }
 {
-    if has_ended(before) {
-        Err(Refusal::PastLast)
-    } else if stop.station > LAST_STATION {
-        Err(Refusal::NoStation)
-    } else if is_at_station_of(before, stop) {
-        Err(Refusal::SameStation)
-    } else if has_wrong_times(before, stop) {
-        Err(Refusal::WrongTimes)
-    } else if has_bad_time(before, stop) {
-        Err(Refusal::BadTime)
-    } else {
-        Ok(())
-    }
+    first_of(&[
+        (has_ended(before), Refusal::PastLast),
+        (stop.station > LAST_STATION, Refusal::NoStation),
+        (is_at_station_of(before, stop), Refusal::SameStation),
+        (has_wrong_times(before, stop), Refusal::WrongTimes),
+        (has_bad_time(before, stop), Refusal::BadTime),
+    ])
 }
 
 // Whether each stop may follow the one before it.

@@ -1,6 +1,6 @@
 use Rattle.std.proofs.Common.{Ok, Err, rules}
 use Rattle.book.proofs.Continued.{begin_continued}
-use Rattle.book.proofs.RefusalTests.{refused_by, not_refused}
+use Rattle.book.proofs.RefusedBy.{refused_by, not_refused}
 use Rattle.book.proofs.lending.LentTables.begin.Goals as goal
 
 pub returns-in-Ok-clause-history : goal.returns-in-Ok-clause-history

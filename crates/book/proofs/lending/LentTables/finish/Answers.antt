@@ -4,7 +4,8 @@ use Rattle.book.specs.Answers.{finished_row}
 use Rattle.book.specs.declared.rows.TrainRow.{TrainRow}
 use Rattle.book.proofs.Continued.{finish_continued}
 use Rattle.book.proofs.KnownRows.{known_past_row, known_after_finish}
-use Rattle.book.proofs.RefusalTests.{refused_by, not_refused, may_finish_held}
+use Rattle.book.proofs.RefusalTests.{may_finish_held}
+use Rattle.book.proofs.RefusedBy.{refused_by, not_refused}
 use Rattle.book.proofs.lending.LentTables.finish.Goals as goal
 
 pub into_book-book-requires : goal.into_book-book-requires

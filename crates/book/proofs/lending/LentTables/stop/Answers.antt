@@ -3,7 +3,8 @@ use Rattle.book.specs.Answers.{row}
 use Rattle.book.specs.declared.rows.StopRow.{StopRow}
 use Rattle.book.proofs.Continued.{stop_continued}
 use Rattle.book.proofs.KnownRows.{known_after_stop}
-use Rattle.book.proofs.RefusalTests.{refused_by, not_refused, stop_passed}
+use Rattle.book.proofs.RefusalTests.{stop_passed}
+use Rattle.book.proofs.RefusedBy.{refused_by, not_refused}
 use Rattle.book.proofs.lending.LentTables.stop.Goals as goal
 
 pub with_stop-entry-requires : goal.with_stop-entry-requires

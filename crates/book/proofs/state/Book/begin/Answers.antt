@@ -1,6 +1,6 @@
 use Rattle.std.proofs.Common.{rules}
 use Rattle.book.proofs.Continued.{begin_continued}
-use Rattle.book.proofs.RefusalTests.{refused_by, not_refused}
+use Rattle.book.proofs.RefusedBy.{refused_by, not_refused}
 use Rattle.book.proofs.state.Book.begin.Goals as goal
 
 pub returns-in-Ok : goal.returns-in-Ok

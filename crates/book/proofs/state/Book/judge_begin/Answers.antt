@@ -1,16 +1,13 @@
-use Rattle.std.proofs.Common.{sym, arith}
+use Rattle.std.proofs.Common.{take, arith}
 use Rattle.std.proofs.lemmas.Bool.Decides.{nat_tests}
-use Rattle.book.proofs.RefusalTests.{begin_flat}
+use Rattle.book.proofs.Held.{held, length_listed}
+use Rattle.book.proofs.Places.{known_found}
+use Rattle.book.proofs.RefusalTests.{begin_same}
 use Rattle.book.proofs.state.Book.judge_begin.Goals as goal
 
-pub returns-then-number-eq0 : goal.returns-then-number-eq0
-returns-then-number-eq0 c = λ stops h. rw (begin_flat c.args.self.now c.args.trains.now stops c.args.number (sym h)) (grind (arith, nat_tests))
-
-pub returns-then-is_some : goal.returns-then-is_some
-returns-then-is_some c = λ stops h. rw (begin_flat c.args.self.now c.args.trains.now stops c.args.number (sym h)) (grind (arith, nat_tests))
-
-pub returns-then-used : goal.returns-then-used
-returns-then-used c = λ stops h. rw (begin_flat c.args.self.now c.args.trains.now stops c.args.number (sym h)) (grind (arith, nat_tests))
-
 pub returns : goal.returns
-returns c = λ stops h. rw (begin_flat c.args.self.now c.args.trains.now stops c.args.number (sym h)) (grind (arith, nat_tests))
+returns c = λ stops h.
+    let b = c.args.self.now in
+    let trains = c.args.trains.now in
+    let used = length_listed b.trains trains stops (held b.trains b.stops trains stops h).trains_fit in
+    rw (begin_same b trains stops c.args.number h, known_found c.args.number (take b.trains trains) stops, used) (grind (arith, nat_tests))

@@ -1,7 +1,7 @@
 use Rattle.std.proofs.Common.{arith, rules}
 use Rattle.book.proofs.Continued.{withdraw_continued}
 use Rattle.book.proofs.Found.{found}
-use Rattle.book.proofs.RefusalTests.{withheld_by, given}
+use Rattle.book.proofs.RefusedBy.{withheld_by, given}
 use Rattle.book.proofs.state.Book.withdraw.Goals as goal
 
 pub offset_bounds-trains-at : goal.offset_bounds-trains-at

@@ -1,6 +1,7 @@
 use Rattle.std.proofs.Common.{rules}
 use Rattle.book.proofs.Continued.{finish_continued}
-use Rattle.book.proofs.RefusalTests.{refused_by, not_refused, may_finish_held}
+use Rattle.book.proofs.RefusalTests.{may_finish_held}
+use Rattle.book.proofs.RefusedBy.{refused_by, not_refused}
 use Rattle.book.proofs.state.Entry.finish.Goals as goal
 
 pub into_book-requires : goal.into_book-requires

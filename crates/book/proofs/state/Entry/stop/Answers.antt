@@ -1,6 +1,7 @@
 use Rattle.std.proofs.Common.{rules}
 use Rattle.book.proofs.Continued.{stop_continued}
-use Rattle.book.proofs.RefusalTests.{refused_by, not_refused, stop_passed}
+use Rattle.book.proofs.RefusalTests.{stop_passed}
+use Rattle.book.proofs.RefusedBy.{refused_by, not_refused}
 use Rattle.book.proofs.state.Entry.stop.Goals as goal
 
 pub with_stop-requires : goal.with_stop-requires
