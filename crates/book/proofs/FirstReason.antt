@@ -1,5 +1,5 @@
 -- What the first reason of a list tells of its tests.
-use Rattle.std.proofs.Common.{◌≡◌, ◌≢◌, Bool, true, false, List, [], ◌∷◌, ◌++◌, Some, None, Option, refl, ap}
+use Rattle.std.proofs.Common.{◌≡◌, ◌≢◌, Bool, true, false, List, [], ◌∷◌, ◌++◌, Some, None, Option, refl, ap, ap₂, ◌∙◌}
 use Rattle.std.specs.List.{AllByRecursion}
 use Rattle.std.specs.Option.{option_or}
 use Rattle.book.specs.Reasons.{first_of}
@@ -44,6 +44,9 @@ module _ {R : Type 0} where
   first_of-append [] more = refl
   first_of-append ((true, r) ∷ rest) more = refl
   first_of-append ((false, r) ∷ rest) more = first_of-append rest more
+
+  pub none_of_both : (reasons more : List (Bool × R)) → first_of reasons ≡ None → first_of more ≡ None → first_of (reasons ++ more) ≡ None
+  none_of_both reasons more e f = first_of-append reasons more ∙ ap₂ option_or e f
 
   pub neither : (a b : Option R) → option_or a b ≡ None → (a ≡ None) × (b ≡ None)
   neither None b e = (refl, e)

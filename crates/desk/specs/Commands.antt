@@ -1,6 +1,7 @@
 -- What the words of the command line ask for.
 use Rattle.std.specs.Prelude.{ℕ, cond, ◌||◌, List, [], ◌∷◌, ◌++◌, Some, None, Ok, Err, Option, Result, option_map, codes, bytes_eq}
 use denote.Ref.{Bor}
+use Rattle.text.specs.Results.{and_then}
 use Rattle.desk.specs.declared.command.Command.{Command}
 use Rattle.desk.specs.declared.command.Command.TheVariants.{Help, Check, Print, Search}
 use Rattle.desk.specs.declared.command.Misuse.{Misuse}
@@ -39,10 +40,6 @@ of_file command word (file ∷ behind) = alone (command file) behind
 abbrev pub given : List ℕ → Option (List ℕ) → List ℕ → Result (List ℕ) (Misuse (List ℕ))
 given word None file = Ok file
 given word (Some before) file = Err (Twice word)
-
-abbrev pub and_then : {A B E : Type 0} → Result A E → (A → Result B E) → Result B E
-and_then (Ok a) on = on a
-and_then (Err e) on = Err e
 
 -- the options of a search, in any order, each with its file behind it
 abbrev pub options : List ℕ → Option (List ℕ) → Option (List ℕ) → List (List ℕ) → Asked

@@ -9,11 +9,14 @@ use Rattle.connection.specs.declared.ride.Shift.{Shift}
 use Rattle.connection.specs.declared.ride.Shift.TheVariants.{DayBefore, SameDay, DayAfter}
 use Rattle.desk.specs.declared.report.Leg.{Leg}
 
--- the day on which a train with this shift sets out, as seen from a query's day; there is none past 65,535
+abbrev pub last_day : ℕ
+last_day = 65535
+
+-- the day on which a train with this shift sets out, as seen from a query's day; there is none past the last
 abbrev pub sets_out : ℕ → Shift → ℕ
 sets_out day DayBefore = day - 1
 sets_out day SameDay = day
-sets_out day DayAfter = min (day + 1) 65535
+sets_out day DayAfter = min (day + 1) last_day
 
 -- from the stop `board` of this train to its stop `alight`, where it leaves the one and arrives at the other
 abbrev pub leg_between : ℕ → Train → StopRow → StopRow → Option Leg

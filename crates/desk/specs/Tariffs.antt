@@ -1,12 +1,12 @@
 -- How agents write the tariff by which connections are compared: `minutes:PENALTY`, `fares` or `waits`.
 use Rattle.std.specs.Prelude.{ℕ, cond, List, ◌++◌, Some, None, Option, option_map, codes, decimal, bytes_eq}
 use Rattle.text.specs.Cuts.{front, behind}
-use Rattle.text.specs.Numbers.{number}
+use Rattle.text.specs.Numbers.{end_of_16_bits, number}
 use Rattle.desk.specs.declared.asked.Asked.{Asked}
 use Rattle.desk.specs.declared.asked.Asked.TheVariants as tariffs
 
 abbrev pub by_minutes : List ℕ → Option Asked
-by_minutes word = cond (bytes_eq (front 58 word) (codes "minutes")) (option_map (λ penalty. tariffs.Minutes penalty) (number 65536 (behind 58 word))) None
+by_minutes word = cond (bytes_eq (front 58 word) (codes "minutes")) (option_map (λ penalty. tariffs.Minutes penalty) (number end_of_16_bits (behind 58 word))) None
 
 abbrev pub tariff_named : List ℕ → Option Asked
 tariff_named word =

@@ -6,7 +6,7 @@ use crate::report::Leg;
 use book::rows::{StopRow, TrainRow};
 use connection::ride::{Ride, Shift};
 
-// The day on which a train with this shift sets out, as seen from a query's day; there is none past 65,535.
+// The day on which a train with this shift sets out, as seen from a query's day; there is none past the last that 16 bits hold.
 fn sets_out(day: u16, shift: Shift) -> u16
     ensures { result ≡ sets_out day shift }
 {

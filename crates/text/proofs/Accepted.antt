@@ -1,39 +1,45 @@
 -- The text of trains that keep the rules, in a book with room for them, is accepted and brings those trains: no call is refused.
 use Rattle.std.proofs.Common.{◌≡◌, ℕ, suc, ◌+◌, ◌<◌, ◌≤◌, Bool, true, false, cond, not, eqb, List, [], ◌∷◌, ◌++◌, length, is_some, Some, None, Ok, Err, Option, Result, sym, refl, ap, ◌∙◌, subst, append_assoc, arith}
 use Rattle.std.specs.List.{flat_map, AllByRecursion as All}
-use Rattle.std.proofs.lemmas.Bool.{and_parts, leb-true, not-true}
+use Rattle.std.proofs.lemmas.Bool.{and_parts, leb-true, not-true, not-false}
 use Rattle.std.proofs.lemmas.Bool.Decides.{nat_tests}
 use Rattle.std.proofs.lemmas.List.{append-nil, length_push}
 use Rattle.book.specs.Answers.{refused_or, unless, longer, abandon_answer}
+use Rattle.book.specs.Limits.{most_stops_of_train, most_trains, most_stops}
 use Rattle.book.specs.Histories.{Closed, Open, EveryHistoryHolds, EveryRefusalAgrees}
 use Rattle.book.specs.PlainList.{none_open, with_open, fresh, lengthened}
-use Rattle.book.specs.Refusals.{begin_fault, next_fault, finish_fault, begin_refusal, stop_refusal, finish_refusal}
-use Rattle.book.specs.Stops.{when, or_else, stop_fault, ended, in_order, last_of, sound}
+use Rattle.book.specs.Refusals.{no_stop_row, begin_fault, next_fault, finish_fault, begin_refusal, stop_refusal, finish_refusal}
+use Rattle.book.specs.Stops.{stop_reasons, stop_fault, ended, in_order, last_of, sound}
 use Rattle.book.specs.Trains.{Train, known, all_stops}
 use Rattle.book.specs.declared.refusal.Refusal.{Refusal}
-use Rattle.book.specs.declared.refusal.Refusal.TheVariants.{PastLast}
+use Rattle.book.specs.declared.refusal.Refusal.TheVariants.{NoStopRow}
 use Rattle.book.specs.declared.rows.StopRow.{StopRow}
 use Rattle.book.specs.declared.rows.TrainRow.{TrainRow}
 use Rattle.book.specs.declared.state.Book.{Book}
 use Rattle.book.specs.declared.state.Entry.{Entry}
 use Rattle.text.specs.Faults.{differs, misread}
 use Rattle.text.specs.Lines.{Line, lines}
-use Rattle.text.specs.Reading.{Left, left, and_then, after_finish, after_stop, stopping, after_begin, same_train, taking, after_saying, reading}
+use Rattle.text.specs.Reading.{Left, left, after_part, after_finish, after_stop, stopping, after_begin, same_train, taking, after_saying, reading}
 use Rattle.text.specs.Written.{fields_of, with_commas, line_of, stop_of, lines_of}
 use Rattle.text.specs.declared.fault.Fault.{Fault}
 use Rattle.text.specs.declared.stage.Stage.{Stage}
 use Rattle.text.specs.declared.stage.Stage.TheVariants.{Between, Inside}
 use Rattle.text.specs.declared.stop_line.StopLine.{StopLine}
+use Rattle.book.proofs.FirstReason.{none_holds, no_reason, none_of_both}
 use Rattle.text.proofs.AlongCalls.{At, open_at, begin_same, stop_same, finish_same, begin_on, stop_on, finish_on, entered, wrote, closed, rowed}
 use Rattle.text.proofs.LinesAndFields.{lines_more}
 use Rattle.text.proofs.LinesSay.{Fits, says_written, line_high}
 
 -- ---- no call is refused
-next_none : (rows : ℕ) (us : List Train) (t : Train) (s : StopRow) → stop_fault (last_of None t.stops) s ≡ None → length t.stops < 64
-    → all_stops us + length t.stops < 4096 → all_stops us + length t.stops < rows → next_fault rows us t s ≡ None
-next_none rows us t s f a b c = grind (arith, nat_tests)
+next_none : (rows : ℕ) (us : List Train) (t : Train) (s : StopRow) → stop_fault (last_of None t.stops) s ≡ None → length t.stops < most_stops_of_train
+    → all_stops us + length t.stops < most_stops → all_stops us + length t.stops < rows → next_fault rows us t s ≡ None
+unfolding stop_fault
+next_none rows us t s f a b c =
+    let row : no_stop_row rows (all_stops us + length t.stops) (length t.stops) ≡ false = grind (arith, nat_tests) in
+    let last = (no_stop_row rows (all_stops us + length t.stops) (length t.stops), NoStopRow) ∷ [] in
+    none_of_both (stop_reasons (last_of None t.stops) s) last f (no_reason last (row, tt))
 
-begin_none : (rows : ℕ) (us : List Train) (n : ℕ) → eqb n 0 ≡ false → known n us ≡ false → length us < 512 → length us < rows → begin_fault rows us n ≡ None
+begin_none : (rows : ℕ) (us : List Train) (n : ℕ) → eqb n 0 ≡ false → known n us ≡ false → length us < most_trains → length us < rows → begin_fault rows us n ≡ None
 begin_none rows us n z k a b = grind (arith, nat_tests)
 
 finish_none : (t : Train) → ended (last_of None t.stops) ≡ true → finish_fault t ≡ None
@@ -47,19 +53,15 @@ no_fault : (o : Option Refusal) → not (is_some o) ≡ true → o ≡ None
 no_fault None e = refl
 no_fault (Some r) e = cc
 
-not_ended : (d : Bool) (next : Option Refusal) → or_else (when (not d) PastLast) next ≡ None → d ≡ true
-not_ended true next e = refl
-not_ended false next e = cc
-
 -- a stop that another follows has a departure
 goes_on : (s next : StopRow) → stop_fault (Some s) next ≡ None → is_some s.depart ≡ true
 unfolding stop_fault
-goes_on s next e = not_ended (is_some s.depart) _ e
+goes_on s next e = not-false _ (none_holds (stop_reasons (Some s) next) e).0
 
 -- ---- one line
 -- the lines behind the line k, after what that line led to
 abbrev on : ℕ → Left Stage → List Line → Left Book
-on k part ls = and_then part (reading k ls)
+on k part ls = after_part part (reading k ls)
 
 line_step : (k : ℕ) (st : Stage) (ts : List TrainRow) (ss : List StopRow) (l : StopLine) (more : List ℕ) → Fits l
     → reading k (lines (line_of l ++ more)) st ts ss ≡ on (suc k) (taking (suc k) l st ts ss) (lines more)
@@ -87,8 +89,8 @@ module _ (every : EveryHistoryHolds) (agrees : EveryRefusalAgrees) (tr sr : ℕ)
     record Remains (t : Train) (todo : List StopRow) : Type 0 where
       order : in_order (last_of None t.stops) todo ≡ true
       ends : ended (last_of (last_of None t.stops) todo) ≡ true
-      few_stops : length t.stops + length todo ≤ 64
-      most_stops : all_stops us + (length t.stops + length todo) ≤ 4096
+      few_stops : length t.stops + length todo ≤ most_stops_of_train
+      most_stops : all_stops us + (length t.stops + length todo) ≤ most_stops
       room : all_stops us + (length t.stops + length todo) ≤ sr
       fits : All (λ (s : StopRow). Fits (stop_of t s)) todo
 
@@ -166,9 +168,9 @@ module _ (every : EveryHistoryHolds) (agrees : EveryRefusalAgrees) (tr sr : ℕ)
   Ready us t = (sound t.number t.stops ≡ true) × (known t.number us ≡ false) × All (λ (s : StopRow). Fits (stop_of t s)) t.stops
 
   pub record Room (us : List Train) (trains stops : ℕ) : Type 0 where
-    pub few_trains : length us + trains ≤ 512
+    pub few_trains : length us + trains ≤ most_trains
     pub train_rows : length us + trains ≤ tr
-    pub few_stops : all_stops us + stops ≤ 4096
+    pub few_stops : all_stops us + stops ≤ most_stops
     pub stop_rows : all_stops us + stops ≤ sr
 
   stops_read : (us : List Train) (n c x : ℕ) (stops : List StopRow) (k : ℕ) (b : Book) (ts : List TrainRow) (ss : List StopRow) (more : List ℕ)

@@ -1,12 +1,13 @@
 -- A number is read digit after digit.
 use Rattle.std.proofs.Common.{◌≡◌, ℕ, ◌+◌, ◌-◌, ◌*◌, ◌<◌, ◌≤◌, ◌&&◌, ltb, List, [], ◌∷◌, length, get_or, Some, None, Option, arith}
+use Rattle.std.specs.Bool.{then_some}
 use Rattle.std.specs.Str.{all_ascii_digits}
 use Rattle.std.proofs.lemmas.Bool.Decides.{nat_tests}
-use Rattle.text.specs.Numbers.{some_if, worth_behind, number_by_digits, with_digit}
+use Rattle.text.specs.Numbers.{worth_behind, number_by_digits, with_digit}
 
 -- what is read in the end, the number n being read and these bytes left
 abbrev pub rest_number : ℕ → ℕ → List ℕ → Option ℕ
-rest_number limit n bs = some_if (all_ascii_digits bs && ltb (worth_behind n bs) limit) (worth_behind n bs)
+rest_number limit n bs = then_some (all_ascii_digits bs && ltb (worth_behind n bs) limit) (worth_behind n bs)
 
 read_more : (n : ℕ) (bs : List ℕ) → n ≤ worth_behind n bs
 read_more n [] = omega arith

@@ -6,7 +6,7 @@ use Rattle.book.specs.declared.rows.StopRow.{StopRow}
 use Rattle.book.specs.declared.rows.TrainRow.{TrainRow}
 use Rattle.text.specs.Cuts.{ahead, has, front, behind}
 use Rattle.text.specs.Lines.{Line, whole, cut_off, in_first_line, lines, line_with}
-use Rattle.text.specs.Reading.{Left, and_then, after_saying, reading}
+use Rattle.text.specs.Reading.{Left, after_part, after_saying, reading}
 use Rattle.text.specs.Saying.{says}
 use Rattle.text.specs.declared.stage.Stage.{Stage}
 
@@ -41,7 +41,7 @@ lines_in_turn (b ∷ bs) h = lines_cons b bs
 -- the line n is handed out as `line`, with a line feed or without, and `part` comes of it; m lines are handed out then
 pub line_in_turn : (k n m : ℕ) (bs line left : List ℕ) (feed : Bool) (st : Stage) (ts : List TrainRow) (ss : List StopRow) (part : Left Stage)
     → 0 < length bs → n ≡ k + 1 → m ≡ k + 1 → line ≡ front 10 bs → feed ≡ has 10 bs → left ≡ behind 10 bs → part ≡ after_saying n (says n (line_with feed line)) st ts ss
-    → and_then part (reading m (lines left)) ≡ reading k (lines bs) st ts ss
+    → after_part part (reading m (lines left)) ≡ reading k (lines bs) st ts ss
 line_in_turn k n m bs line left feed st ts ss part some number count is_line is_feed is_left comes =
     let next : n ≡ suc k = omega arith in
     let next_count : m ≡ suc k = omega arith in

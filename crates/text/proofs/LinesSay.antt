@@ -1,7 +1,7 @@
 -- One line: its bytes and what it says give each other.
 use Rattle.std.proofs.Common.{◌≡◌, ℕ, ◌<◌, ◌≤◌, Bool, true, false, cond, eqb, List, [], ◌∷◌, ◌++◌, length, Some, None, Ok, Err, decimal, Option, Result, sym, refl, ap, ◌∙◌, subst, arith}
 use Rattle.std.specs.List.{AllByRecursion as All}
-use Rattle.std.specs.Option.{option_map}
+use Rattle.std.specs.Option.{ok_or, option_map}
 use Rattle.std.specs.Str.{all_ascii_digits}
 use Rattle.std.proofs.ByRecursion.{All-append, All-weaker}
 use Rattle.std.proofs.lemmas.Bool.{and_parts, eqb-true, leb-true}
@@ -9,9 +9,10 @@ use Rattle.book.specs.Stops.{leaves}
 use Rattle.book.specs.declared.rows.Departure.{Departure}
 use Rattle.text.specs.Faults.{malformed}
 use Rattle.text.specs.Lines.{Line, whole, cut_off, fields, field}
-use Rattle.text.specs.Numbers.{number}
-use Rattle.text.specs.Saying.{time_if_any, departure, and_then, fields_say, says}
-use Rattle.text.specs.Times.{time}
+use Rattle.text.specs.Numbers.{end_of_8_bits, end_of_16_bits, number}
+use Rattle.text.specs.Results.{and_then}
+use Rattle.text.specs.Saying.{time_if_any, departure, fields_say, says}
+use Rattle.text.specs.Times.{end_of_clock, time}
 use Rattle.text.specs.Written.{clock_or_blank, fare_or_blank, fields_of, with_commas, line_of, Typed}
 use Rattle.text.specs.declared.fault.Fault.{Fault}
 use Rattle.text.specs.declared.stop_line.StopLine.{StopLine}
@@ -20,7 +21,7 @@ use Rattle.text.proofs.WrittenNumbers.{number_back, number_of_decimal, decimal_a
 use Rattle.text.proofs.WrittenTimes.{time_back, time_of_clock}
 
 -- ---- from a line to what it says
-and_then_ok : {A B P : Type 0} (f : Fault) (o : Option A) (on : A → Result B Fault) (b : B) → and_then f o on ≡ Ok b → ((a : A) → o ≡ Some a → on a ≡ Ok b → P) → P
+and_then_ok : {A B P : Type 0} (f : Fault) (o : Option A) (on : A → Result B Fault) (b : B) → and_then (ok_or o f) on ≡ Ok b → ((a : A) → o ≡ Some a → on a ≡ Ok b → P) → P
 and_then_ok f None on b e k = cc
 and_then_ok f (Some a) on b e k = k a refl e
 
@@ -36,8 +37,8 @@ fare_back : (o : Option ℕ) (bs : List ℕ) (d : Option Departure) → departur
 fare_back None [] d e = let p : d ≡ None = cc in rw p (refl, refl)
 fare_back None (b ∷ bs) d e = cc
 fare_back (Some m) bs d e =
-    let p = map_parts (λ fare. Some (record { minute = m; fare = fare })) (number 65536 bs) d e in
-    rw (← p.2) ((number_back 65536 bs p.0 p.1).0, refl)
+    let p = map_parts (λ fare. Some (record { minute = m; fare = fare })) (number end_of_16_bits bs) d e in
+    rw (← p.2) ((number_back end_of_16_bits bs p.0 p.1).0, refl)
 
 seven : (fs : List (List ℕ)) → length fs ≡ 7 → fs ≡ field 0 fs ∷ field 1 fs ∷ field 2 fs ∷ field 3 fs ∷ field 4 fs ∷ field 5 fs ∷ field 6 fs ∷ []
 seven (a ∷ b ∷ c ∷ d ∷ f ∷ g ∷ h ∷ []) e = refl
@@ -47,14 +48,14 @@ module _ (fs : List (List ℕ)) (train code features station : ℕ) (arrive leav
   abbrev found : StopLine
   found = record { number = train; code = code; features = features; stop = record { station = station; arrive = arrive; depart = depart } }
 
-  found_back : length fs ≡ 7 → number 65536 (field 0 fs) ≡ Some train → number 256 (field 1 fs) ≡ Some code → number 65536 (field 2 fs) ≡ Some features
-      → number 65536 (field 3 fs) ≡ Some station → time_if_any (field 4 fs) ≡ Some arrive → time_if_any (field 5 fs) ≡ Some leave
+  found_back : length fs ≡ 7 → number end_of_16_bits (field 0 fs) ≡ Some train → number end_of_8_bits (field 1 fs) ≡ Some code → number end_of_16_bits (field 2 fs) ≡ Some features
+      → number end_of_16_bits (field 3 fs) ≡ Some station → time_if_any (field 4 fs) ≡ Some arrive → time_if_any (field 5 fs) ≡ Some leave
       → departure leave (field 6 fs) ≡ Some depart → fs ≡ fields_of found
   found_back n e0 e1 e2 e3 e4 e5 e6 =
-      let f0 = (number_back 65536 (field 0 fs) train e0).0 in
-      let f1 = (number_back 256 (field 1 fs) code e1).0 in
-      let f2 = (number_back 65536 (field 2 fs) features e2).0 in
-      let f3 = (number_back 65536 (field 3 fs) station e3).0 in
+      let f0 = (number_back end_of_16_bits (field 0 fs) train e0).0 in
+      let f1 = (number_back end_of_8_bits (field 1 fs) code e1).0 in
+      let f2 = (number_back end_of_16_bits (field 2 fs) features e2).0 in
+      let f3 = (number_back end_of_16_bits (field 3 fs) station e3).0 in
       let f4 = clock_back (field 4 fs) arrive e4 in
       let f6 = fare_back leave (field 6 fs) depart e6 in
       let f5 : field 5 fs ≡ clock_or_blank (leaves depart) = clock_back (field 5 fs) leave e5 ∙ ap clock_or_blank f6.1 in
@@ -64,10 +65,10 @@ module _ (fs : List (List ℕ)) (train code features station : ℕ) (arrive leav
 pub fields_back : (k : ℕ) (fs : List (List ℕ)) (l : StopLine) → length fs ≡ 7 → fields_say k fs ≡ Ok l → fs ≡ fields_of l
 unfolding fields_say
 fields_back k fs l n e =
-    and_then_ok _ (number 65536 (field 0 fs)) _ l e (λ train e0 r0.
-    and_then_ok _ (number 256 (field 1 fs)) _ l r0 (λ code e1 r1.
-    and_then_ok _ (number 65536 (field 2 fs)) _ l r1 (λ features e2 r2.
-    and_then_ok _ (number 65536 (field 3 fs)) _ l r2 (λ station e3 r3.
+    and_then_ok _ (number end_of_16_bits (field 0 fs)) _ l e (λ train e0 r0.
+    and_then_ok _ (number end_of_8_bits (field 1 fs)) _ l r0 (λ code e1 r1.
+    and_then_ok _ (number end_of_16_bits (field 2 fs)) _ l r1 (λ features e2 r2.
+    and_then_ok _ (number end_of_16_bits (field 3 fs)) _ l r2 (λ station e3 r3.
     and_then_ok _ (time_if_any (field 4 fs)) _ l r3 (λ arrive e4 r4.
     and_then_ok _ (time_if_any (field 5 fs)) _ l r4 (λ leave e5 r5.
     and_then_ok _ (departure leave (field 6 fs)) _ l r5 (λ depart e6 r6.
@@ -85,7 +86,7 @@ says_back k (whole l) s e = at_test (eqb (length (fields l)) 7) refl e where
 -- ---- from a stop to its line
 abbrev pub OnClock : Option ℕ → Type 0
 OnClock None = Unit {0}
-OnClock (Some m) = m < 6000
+OnClock (Some m) = m < end_of_clock
 
 -- a stop that can be written in a line
 pub record Fits (l : StopLine) : Type 0 where
@@ -97,18 +98,18 @@ clock_said : (o : Option ℕ) → OnClock o → time_if_any (clock_or_blank o) �
 clock_said None h = refl
 clock_said (Some m) h = rw (time_of_clock m h) refl
 
-fare_said : (o : Option Departure) → ((d : Departure) → o ≡ Some d → d.fare < 65536) → departure (leaves o) (fare_or_blank o) ≡ Some o
+fare_said : (o : Option Departure) → ((d : Departure) → o ≡ Some d → d.fare < end_of_16_bits) → departure (leaves o) (fare_or_blank o) ≡ Some o
 fare_said None h = refl
-fare_said (Some d) h = rw (number_of_decimal 65536 d.fare (h d refl) (omega arith)) refl
+fare_said (Some d) h = rw (number_of_decimal end_of_16_bits d.fare (h d refl) (omega arith)) refl
 
 pub fields_said : (k : ℕ) (l : StopLine) → Fits l → fields_say k (fields_of l) ≡ Ok l
 unfolding fields_say
 fields_said k l h =
     let t = h.typed in
-    rw (number_of_decimal 65536 l.number t.number (omega arith))
-    (rw (number_of_decimal 256 l.code t.code (omega arith))
-    (rw (number_of_decimal 65536 l.features t.features (omega arith))
-    (rw (number_of_decimal 65536 l.stop.station t.station (omega arith))
+    rw (number_of_decimal end_of_16_bits l.number t.number (omega arith))
+    (rw (number_of_decimal end_of_8_bits l.code t.code (omega arith))
+    (rw (number_of_decimal end_of_16_bits l.features t.features (omega arith))
+    (rw (number_of_decimal end_of_16_bits l.stop.station t.station (omega arith))
     (rw (clock_said l.stop.arrive h.arrives)
     (rw (clock_said (leaves l.stop.depart) h.leaves)
     (rw (fare_said l.stop.depart t.fare) refl))))))
@@ -118,14 +119,14 @@ digits_high : (bs : List ℕ) → all_ascii_digits bs ≡ true → From 48 bs
 digits_high [] e = tt
 digits_high (c ∷ cs) e = let p = and_parts _ _ e in (leb-true 48 c (and_parts _ _ p.0).0, digits_high cs p.1)
 
-decimal_high : (n : ℕ) → n < 65536 → From 48 (decimal n)
+decimal_high : (n : ℕ) → n < end_of_16_bits → From 48 (decimal n)
 decimal_high n h = digits_high (decimal n) (decimal_are_digits n (omega arith))
 
 clock_high : (o : Option ℕ) → From 48 (clock_or_blank o)
 clock_high None = tt
 clock_high (Some m) = (omega arith, (omega arith, (omega arith, (omega arith, (omega arith, tt)))))
 
-fare_high : (o : Option Departure) → ((d : Departure) → o ≡ Some d → d.fare < 65536) → From 48 (fare_or_blank o)
+fare_high : (o : Option Departure) → ((d : Departure) → o ≡ Some d → d.fare < end_of_16_bits) → From 48 (fare_or_blank o)
 fare_high None h = tt
 fare_high (Some d) h = decimal_high d.fare (h d refl)
 

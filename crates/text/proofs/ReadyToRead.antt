@@ -3,6 +3,7 @@ use Rattle.std.proofs.Common.{◌≡◌, ℕ, suc, ◌<◌, ◌≤◌, false, �
 use Rattle.std.specs.List.{AllByRecursion as All}
 use Rattle.std.proofs.lemmas.Bool.{or_from, ne_eqb}
 use Rattle.book.specs.Histories.{number_at, EveryHistoryHolds, EveryRefusalAgrees}
+use Rattle.book.specs.Limits.{last_minute}
 use Rattle.book.specs.Rules.{stop_at, Rules, SoundIsTheRules}
 use Rattle.book.specs.Stops.{leaves}
 use Rattle.book.specs.Trains.{Train, known}
@@ -13,16 +14,16 @@ use Rattle.text.proofs.Accepted.{AllReady}
 use Rattle.text.proofs.LinesSay.{OnClock, Fits}
 
 -- ---- times
-arrival_on_clock : (o : Option ℕ) → ((m : ℕ) → o ≡ Some m → m ≤ 2879) → OnClock o
+arrival_on_clock : (o : Option ℕ) → ((m : ℕ) → o ≡ Some m → m ≤ last_minute) → OnClock o
 arrival_on_clock None h = tt
 arrival_on_clock (Some m) h = omega (arith, h m refl)
 
-departure_on_clock : (o : Option Departure) → ((d : Departure) → o ≡ Some d → d.minute ≤ 2879) → OnClock (leaves o)
+departure_on_clock : (o : Option Departure) → ((d : Departure) → o ≡ Some d → d.minute ≤ last_minute) → OnClock (leaves o)
 departure_on_clock None h = tt
 departure_on_clock (Some d) h = omega (arith, h d refl)
 
-all_fit : (t : Train) (ss : List StopRow) → ((i m : ℕ) → i < length ss → (stop_at ss i).arrive ≡ Some m → m ≤ 2879)
-    → ((i : ℕ) (d : Departure) → i < length ss → (stop_at ss i).depart ≡ Some d → d.minute ≤ 2879)
+all_fit : (t : Train) (ss : List StopRow) → ((i m : ℕ) → i < length ss → (stop_at ss i).arrive ≡ Some m → m ≤ last_minute)
+    → ((i : ℕ) (d : Departure) → i < length ss → (stop_at ss i).depart ≡ Some d → d.minute ≤ last_minute)
     → All (λ (s : StopRow). Typed (stop_of t s)) ss → All (λ (s : StopRow). Fits (stop_of t s)) ss
 all_fit t [] arrives departs typed = tt
 all_fit t (s ∷ ss) arrives departs typed = (

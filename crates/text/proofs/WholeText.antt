@@ -1,8 +1,8 @@
 -- A whole text is read from its line of names on, after the tables are looked over.
-use Rattle.std.proofs.Common.{◌≡◌, ℕ, ◌+◌, Bool, false, cond, ltb, List, [], length, is_some, IfSome, MatchOption, Some, None, Ok, Err, Option, refl, sym, ap, ap₂, ◌∙◌, arith}
+use Rattle.std.proofs.Common.{◌≡◌, ℕ, ◌+◌, Bool, false, cond, ltb, List, [], length, is_some, IfSome, MatchOption, Some, None, Ok, Err, Option, sym, ap, ap₂, ◌∙◌, arith}
 use Rattle.std.proofs.lemmas.Bool.{ltb-true, ltb-false}
 use Rattle.std.proofs.lemmas.List.{nil_from_length}
-use Rattle.book.specs.Answers.{ok_unless, check_answer}
+use Rattle.book.specs.Answers.{check_answer}
 use Rattle.book.specs.declared.refusal.Refusal.{Refusal}
 use Rattle.book.specs.declared.rows.StopRow.{StopRow}
 use Rattle.book.specs.declared.rows.TrainRow.{TrainRow}
@@ -13,25 +13,18 @@ use Rattle.text.specs.Lines.{lines, line_with}
 use Rattle.text.specs.Reading.{left, reading, is_names, from_names, unless_refused, read}
 use Rattle.text.specs.declared.reader.Reader.{Reader}
 use Rattle.text.specs.declared.stage.Stage.TheVariants.{Between}
+use Rattle.book.proofs.RefusedBy.{refused_by, not_refused}
 use Rattle.text.proofs.LinesInTurn.{lines_in_turn}
-
-some_reason : (o : Option Refusal) (r : Refusal) → Err r ≡ ok_unless o → o ≡ Some r
-some_reason None r e = cc
-some_reason (Some reason) r e = cc
-
-no_reason : (o : Option Refusal) → Ok tt ≡ ok_unless o → o ≡ None
-no_reason None e = refl
-no_reason (Some reason) e = cc
 
 module _ (text : List ℕ) (b : Book) (ts : List TrainRow) (ss : List StopRow) where
   pub refused_text : (r : Refusal) → Err r ≡ check_answer b ts ss → left (Err (misread b (refused 0 r))) ts ss ≡ read text b ts ss
   unfolding read
-  refused_text r e = sym (ap (λ o. unless_refused o b ts ss (from_names (lines text) b ts ss)) (some_reason _ r e))
+  refused_text r e = sym (ap (λ o. unless_refused o b ts ss (from_names (lines text) b ts ss)) (refused_by _ r e))
 
   module _ (checked : Ok tt ≡ check_answer b ts ss) where
     passed : from_names (lines text) b ts ss ≡ read text b ts ss
     unfolding read
-    passed = sym (ap (λ o. unless_refused o b ts ss (from_names (lines text) b ts ss)) (no_reason _ checked))
+    passed = sym (ap (λ o. unless_refused o b ts ss (from_names (lines text) b ts ss)) (not_refused _ checked))
 
     -- `named` tells whether there is a first line, and it is the line of names; so many lines are handed out then, and `rest` is left
     pub names_told : (first : Option Reader) (named : Bool) (count : ℕ) (rest : List ℕ)

@@ -1,36 +1,27 @@
 -- What writing answers and leaves in the buffer, by whether the rows hold and the text fits.
-use Rattle.std.proofs.Common.{◌≡◌, ℕ, ◌≤◌, Bool, true, false, cond, List, ◌++◌, length, drop, Some, None, Ok, Err, nat_lt, nat_le, zero-add, refl, ap, ◌∙◌, arith}
+use Rattle.std.proofs.Common.{◌≡◌, ℕ, ◌≤◌, true, false, cond, List, ◌++◌, length, drop, Ok, Err, nat_lt, nat_le, zero-add, refl, sym, ap, ◌∙◌, arith}
 use Rattle.std.proofs.lemmas.Bool.Decides.{nat_tests}
-use Rattle.book.specs.Answers.{check_answer, ok_unless}
-use Rattle.book.specs.Refusals.{check_refusal, or_damaged}
+use Rattle.book.specs.Answers.{check_answer}
 use Rattle.book.specs.Trains.{holds, listed}
 use Rattle.book.specs.declared.refusal.Refusal.{Refusal as BookRefusal}
 use Rattle.book.specs.declared.rows.StopRow.{StopRow}
 use Rattle.book.specs.declared.rows.TrainRow.{TrainRow}
 use Rattle.book.specs.declared.state.Book.{Book as ABook}
+use Rattle.book.proofs.RefusedBy.{check_passed, check_failed}
 use Rattle.text.specs.Puts.{Put}
-use Rattle.text.specs.Writing.{write, text_if_fits}
+use Rattle.text.specs.Writing.{write}
 use Rattle.text.specs.Written.{text_of}
 use Rattle.text.specs.declared.refusal.Refusal.TheVariants.{Book, ShortBuffer}
 
 module _ (b : ABook) (ts : List TrainRow) (ss : List StopRow) where
   pub write_damaged : (room : ℕ) (r : BookRefusal) → check_answer b ts ss ≡ Err r → write b ts ss room ≡ Err (Book r)
-  unfolding check_refusal write
-  write_damaged room r = go (holds b.trains b.stops ts ss)
-    where
-      go : (t : Bool) → ok_unless (or_damaged (cond t (Some (listed b.trains ts ss)) None) (λ _. None)) ≡ Err r → text_if_fits (cond t (Some (listed b.trains ts ss)) None) room ≡ Err (Book r)
-      go true e = cc
-      go false e = cc
+  unfolding write
+  write_damaged room r e = let f = check_failed b ts ss r (sym e) in rw (f.0, f.1) refl
 
   -- ---- the check passes; n is how many trains the book says it has
   module _ {u : Unit {0}} (passes : check_answer b ts ss ≡ Ok u) (n : ℕ) (e : n ≡ b.trains) where
     held : holds b.trains b.stops ts ss ≡ true
-    unfolding check_refusal
-    held = go (holds b.trains b.stops ts ss) passes
-      where
-        go : (t : Bool) → ok_unless (or_damaged (cond t (Some (listed b.trains ts ss)) None) (λ _. None)) ≡ Ok u → t ≡ true
-        go true h = refl
-        go false h = cc
+    held = check_passed b ts ss (sym passes)
 
     pub rows_fit : n ≤ length ts
     unfolding holds

@@ -1,5 +1,6 @@
 -- Bytes write a number just where they are its decimal digits, with no zero ahead; and each number's digits write it.
 use Rattle.std.proofs.Common.{◌≡◌, ℕ, zero, suc, ◌^◌, ◌<◌, ◌≤◌, Bool, true, false, ◌&&◌, ltb, List, [], ◌∷◌, length, get_or, Some, decimal, sym, refl, ap, ◌∙◌, subst, arith, rules}
+use Rattle.std.specs.Bool.{then_some}
 use Rattle.std.specs.Bool.{Decides}
 use Rattle.std.specs.Str.{all_ascii_digits, bytes_eq}
 use Rattle.std.proofs.lemmas.Bool.{and_parts, ltb-true, lt-ltb}
@@ -7,11 +8,11 @@ use Rattle.std.proofs.lemmas.Bool.Decides.{same_from_decides, nat_tests}
 use Rattle.std.proofs.lemmas.Fmt.{digits_decimal, digits_value-decimal, decimal-digits_value, decimal_nonempty, first_decimal, decimal_digit}
 use Rattle.std.proofs.lemmas.Slice.Eq.{bytes_eq-Decides}
 use Rattle.std.proofs.lemmas.Str.Parse.{IsNumeralModel, numerals_by_fold}
-use Rattle.text.specs.Numbers.{some_if, worth_behind, worth, number, are_digits, number_by_digits}
+use Rattle.text.specs.Numbers.{worth_behind, worth, number, are_digits, number_by_digits}
 
-pub some_if_parts : {A : Type 0} (b : Bool) (a x : A) → some_if b a ≡ Some x → (b ≡ true) × (a ≡ x)
-some_if_parts true a x e = (refl, cc)
-some_if_parts false a x e = cc
+pub then_some_parts : {A : Type 0} (b : Bool) (a x : A) → then_some b a ≡ Some x → (b ≡ true) × (a ≡ x)
+then_some_parts true a x e = (refl, cc)
+then_some_parts false a x e = cc
 
 -- ---- digits
 own : IsNumeralModel (λ ds. all_ascii_digits ds ≡ true) worth
@@ -51,17 +52,17 @@ are_digits-Decides bs h = (
 pub number_is_by_digits : (limit : ℕ) (bs : List ℕ) → limit ≤ 2 ^ 64 → number_by_digits limit bs ≡ number limit bs
 unfolding number number_by_digits
 number_is_by_digits limit bs most = at_test (ltb (worth bs) limit) refl where
-  at_test : (t : Bool) → ltb (worth bs) limit ≡ t → some_if (are_digits bs && t) (worth bs) ≡ some_if (bytes_eq bs (decimal (worth bs)) && t) (worth bs)
+  at_test : (t : Bool) → ltb (worth bs) limit ≡ t → then_some (are_digits bs && t) (worth bs) ≡ then_some (bytes_eq bs (decimal (worth bs)) && t) (worth bs)
   at_test true e =
       let small : worth bs < 2 ^ 64 = omega (arith, ltb-true _ _ e) in
-      ap (λ (d : Bool). some_if (d && true) (worth bs)) (same_from_decides _ _ (are_digits-Decides bs small) (bytes_eq-Decides bs (decimal (worth bs))))
+      ap (λ (d : Bool). then_some (d && true) (worth bs)) (same_from_decides _ _ (are_digits-Decides bs small) (bytes_eq-Decides bs (decimal (worth bs))))
   at_test false e = grind (arith, nat_tests)
 
 -- ---- a number and its bytes give each other
 pub number_back : (limit : ℕ) (bs : List ℕ) (n : ℕ) → number limit bs ≡ Some n → (bs ≡ decimal n) × (n < limit)
 unfolding number
 number_back limit bs n e =
-    let p = some_if_parts (bytes_eq bs (decimal (worth bs)) && ltb (worth bs) limit) (worth bs) n e in
+    let p = then_some_parts (bytes_eq bs (decimal (worth bs)) && ltb (worth bs) limit) (worth bs) n e in
     let q = and_parts _ _ p.0 in
     ((bytes_eq-Decides bs (decimal (worth bs))).0 q.0 ∙ ap decimal p.1, omega (arith, ltb-true _ _ q.1, p.1))
 

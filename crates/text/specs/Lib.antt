@@ -6,6 +6,7 @@ pub mod Measured
 pub mod Numbers
 pub mod Puts
 pub mod Reading
+pub mod Results
 pub mod Returns
 pub mod Saying
 pub mod Times

@@ -33,8 +33,8 @@ abbrev pub then_on : {A B : Type 0} → Result A Misread → List TrainRow → L
 then_on (Ok a) ts ss on = on a ts ss
 then_on (Err m) ts ss on = left (Err m) ts ss
 
-abbrev pub and_then : {A B : Type 0} → Left A → (A → List TrainRow → List StopRow → Left B) → Left B
-and_then part on = then_on part.answer part.trains part.stops on
+abbrev pub after_part : {A B : Type 0} → Left A → (A → List TrainRow → List StopRow → Left B) → Left B
+after_part part on = then_on part.answer part.trains part.stops on
 
 -- ---- the calls of the line k
 -- a book refuses the call of this line
@@ -88,7 +88,7 @@ ending k (Inside e) = Err (misread (abandon_answer e) (refused k Unfinished))
 -- the lines behind the line k
 abbrev pub reading : ℕ → List Line → Stage → List TrainRow → List StopRow → Left Book
 reading k [] st ts ss = left (ending k st) ts ss
-reading k (l ∷ ls) st ts ss = and_then (after_saying (suc k) (says (suc k) l) st ts ss) (reading (suc k) ls)
+reading k (l ∷ ls) st ts ss = after_part (after_saying (suc k) (says (suc k) l) st ts ss) (reading (suc k) ls)
 
 -- ---- a whole text
 abbrev pub is_names : Line → Bool

@@ -1,7 +1,7 @@
 -- How a time is written: two digits for the hours, a colon, and two digits for the minutes, from 00:00 to 99:59.
 use Rattle.std.specs.Prelude.{ℕ, ◌+◌, ◌-◌, ◌*◌, ◌/◌, ◌%◌, Bool, ◌&&◌, List, [], ◌∷◌, length, Option, ◌==◌, nat_le, nat_lt, bytes_eq, slice_index_or}
+use Rattle.std.specs.Bool.{then_some}
 use Rattle.std.specs.Char.{is_ascii_digit}
-use Rattle.text.specs.Numbers.{some_if}
 
 -- minutes from midnight, as they are written
 abbrev pub clock : ℕ → List ℕ
@@ -24,7 +24,7 @@ clocked bs = 60 * two (byte bs 0) (byte bs 1) + two (byte bs 3) (byte bs 4)
 
 -- the minute that is written as these bytes, if there is one
 unfoldable pub time : List ℕ → Option ℕ
-time bs = some_if (bytes_eq bs (clock (clocked bs)) && nat_lt (clocked bs) end_of_clock) (clocked bs)
+time bs = then_some (bytes_eq bs (clock (clocked bs)) && nat_lt (clocked bs) end_of_clock) (clocked bs)
 
 -- ---- in the words of the digits
 -- four digits, the last two at most 59
@@ -35,4 +35,4 @@ abbrev pub is_clock : List ℕ → Bool
 is_clock bs = length bs == 5 && byte bs 2 == 58 && are_clock_digits (byte bs 0) (byte bs 1) (byte bs 3) (byte bs 4)
 
 unfoldable pub time_by_digits : List ℕ → Option ℕ
-time_by_digits bs = some_if (is_clock bs) (clocked bs)
+time_by_digits bs = then_some (is_clock bs) (clocked bs)

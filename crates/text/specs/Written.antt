@@ -5,6 +5,7 @@ use Rattle.book.specs.Stops.{leaves}
 use Rattle.book.specs.Trains.{Train}
 use Rattle.book.specs.declared.rows.Departure.{Departure}
 use Rattle.book.specs.declared.rows.StopRow.{StopRow}
+use Rattle.text.specs.Numbers.{end_of_8_bits, end_of_16_bits}
 use Rattle.text.specs.Times.{clock}
 use Rattle.text.specs.declared.stop_line.StopLine.{StopLine}
 
@@ -44,11 +45,11 @@ text_of ts = names ++ 10 ∷ flat_map lines_of ts
 
 -- ---- what the types of a line's values say of them
 pub record Typed (l : StopLine) : Type 0 where
-  pub number : l.number < 65536
-  pub code : l.code < 256
-  pub features : l.features < 65536
-  pub station : l.stop.station < 65536
-  pub fare : (d : Departure) → l.stop.depart ≡ Some d → d.fare < 65536
+  pub number : l.number < end_of_16_bits
+  pub code : l.code < end_of_8_bits
+  pub features : l.features < end_of_16_bits
+  pub station : l.stop.station < end_of_16_bits
+  pub fare : (d : Departure) → l.stop.depart ≡ Some d → d.fare < end_of_16_bits
 
 abbrev pub AllTyped : List Train → Type 0
 AllTyped ts = AllByRecursion (λ (t : Train). AllByRecursion (λ (s : StopRow). Typed (stop_of t s)) t.stops) ts

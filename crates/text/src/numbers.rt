@@ -1,6 +1,6 @@
 // Numbers, as they are written.
 ghost use Rattle.std.specs.Prelude.{◌≡◌, ◌+◌, ◌≤◌, ◌↔◌, ℕ, Some, decimal};
-ghost use Rattle.text.specs.Numbers.{number, number_by_digits, with_digit};
+ghost use Rattle.text.specs.Numbers.{end_of_8_bits, number, number_by_digits, with_digit};
 
 // What one digit more makes of a number, where that is no more than `most`.
 fn with_digit(n: u16, byte: u8, most: u16) -> Option<u16>
@@ -32,11 +32,11 @@ pub fn number_of(field: &[u8], most: u16) -> Option<u16>
     Some(n)
 }
 
-// The number that is written so, where it is no more than 255.
+// The number that is written so, where 8 bits hold it.
 pub fn small_number_of(field: &[u8]) -> Option<u8>
-    ensures value { result ≡ number 256 field.now }
-    ensures digits { result ≡ number_by_digits 256 field.now }
+    ensures value { result ≡ number end_of_8_bits field.now }
+    ensures digits { result ≡ number_by_digits end_of_8_bits field.now }
 {
-    let n = number_of(field, 255)?;
+    let n = number_of(field, u8::MAX as u16)?;
     Some(n as u8)
 }

@@ -4,7 +4,7 @@ ghost use Rattle.std.specs.Option.{ok_or};
 ghost use Rattle.text.specs.Faults.{malformed};
 ghost use Rattle.text.specs.Handing.{says_in_turn};
 ghost use Rattle.text.specs.Lines.{fields, line_with};
-ghost use Rattle.text.specs.Numbers.{number};
+ghost use Rattle.text.specs.Numbers.{end_of_8_bits, number};
 ghost use Rattle.text.specs.Saying.{time_if_any, departure, says};
 
 use crate::fault::{Cause, Fault};
@@ -35,7 +35,7 @@ impl Field<'_> {
     }
 
     fn small_number(&self) -> Result<u8, Fault>
-        ensures { result ≡ ok_or (number 256 self.now.bytes.now) (malformed self.now.line self.now.column) }
+        ensures { result ≡ ok_or (number end_of_8_bits self.now.bytes.now) (malformed self.now.line self.now.column) }
     {
         small_number_of(self.bytes).ok_or(self.malformed())
     }
