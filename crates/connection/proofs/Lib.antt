@@ -1,18 +1,23 @@
+mod AllowedMoves
 pub mod Best
-mod ConnectionTest
+pub mod CaughtTrains
 pub mod ConnectionsAreWays
+mod EachShift
 mod EdgeJourneys
 pub mod FewSteps
 mod FiveMinutes
 pub mod Found
+pub mod Ground
 mod Hops
+mod InLists
 mod Journeys
-pub mod LabelsAreBest
+mod ListedConnections
 mod NothingIsCut
 pub mod Onward
-pub mod Optimal
 pub mod Pushed
+mod RideByRide
 mod RoomForSteps
+mod SameRides
 pub mod Settling
 pub mod Tests
 pub mod Times

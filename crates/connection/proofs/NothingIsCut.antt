@@ -3,6 +3,7 @@ use Rattle.std.proofs.Common.{◌≡◌, ℕ, zero, suc, ◌+◌, ◌<◌, ◌�
 use Rattle.std.specs.List.{AllByRecursion}
 use Rattle.tariff.specs.declared.step.Kind.{Kind}
 use Rattle.tariff.specs.declared.step.Kind.TheVariants.{Start, Change}
+use Rattle.book.specs.Limits.{last_minute}
 use Rattle.book.specs.Rules.{Rules, stop_at}
 use Rattle.book.specs.Trains.{Train}
 use Rattle.book.specs.declared.rows.Departure.{Departure}
@@ -10,14 +11,16 @@ use Rattle.book.specs.declared.rows.StopRow.{StopRow}
 use Rattle.connection.specs.Clock.{ready}
 use Rattle.connection.specs.Prices.{over, stops_of, stretches_from}
 use Rattle.connection.specs.Rides.{arrival, departure, fare_on, stops_at, arrives}
+use Rattle.connection.specs.Timetable.{Timetable}
 use Rattle.connection.specs.Whole.{KeepTheRules, HaveFares, Whole, NothingIsCut}
+use Rattle.connection.specs.declared.query.Query.{Query}
 use Rattle.connection.specs.declared.ride.Ride.{Ride}
 use Rattle.connection.proofs.FewSteps.{midnight_by}
 
 -- a stop with times and fare as the rules allow
 record Small (s : StopRow) : Type 0 where
-  gets_in : arrival s ≤ 2879
-  goes_out : departure s ≤ 2879
+  gets_in : arrival s ≤ last_minute
+  goes_out : departure s ≤ last_minute
   pays : fare_on s ≤ 65535
 
 -- ---- lists
@@ -35,23 +38,23 @@ all_drop P zero xs a = a
 all_drop P (suc n) [] a = tt
 all_drop P (suc n) (x ∷ xs) a = all_drop P n xs a.1
 
-all_stops_small : (ss : List StopRow) → ((i : ℕ) → i < length ss → arrival (stop_at ss i) ≤ 2879) → ((i : ℕ) → i < length ss → departure (stop_at ss i) ≤ 2879) → AllByRecursion (λ (s : StopRow). fare_on s ≤ 65535) ss → AllByRecursion Small ss
+all_stops_small : (ss : List StopRow) → ((i : ℕ) → i < length ss → arrival (stop_at ss i) ≤ last_minute) → ((i : ℕ) → i < length ss → departure (stop_at ss i) ≤ last_minute) → AllByRecursion (λ (s : StopRow). fare_on s ≤ 65535) ss → AllByRecursion Small ss
 all_stops_small [] a d f = tt
 all_stops_small (s ∷ ss) a d f =
     (record { gets_in = a 0 (omega arith); goes_out = d 0 (omega arith); pays = f.0 }, all_stops_small ss (λ i h. a (suc i) (omega arith)) (λ i h. d (suc i) (omega arith)) f.1)
 
 -- ---- times
-arrives_small : (number : ℕ) (ss : List StopRow) → Rules number ss → (i : ℕ) → i < length ss → arrival (stop_at ss i) ≤ 2879
+arrives_small : (number : ℕ) (ss : List StopRow) → Rules number ss → (i : ℕ) → i < length ss → arrival (stop_at ss i) ≤ last_minute
 arrives_small number ss rules i h = go (stop_at ss i).arrive (λ m e. rules.arrives_in_time i m h e) refl
   where
-    go : (o : Option ℕ) → ((m : ℕ) → (stop_at ss i).arrive ≡ Some m → m ≤ 2879) → (stop_at ss i).arrive ≡ o → elim o [ Some m ↦ m | None ↦ 0 ] ≤ 2879
+    go : (o : Option ℕ) → ((m : ℕ) → (stop_at ss i).arrive ≡ Some m → m ≤ last_minute) → (stop_at ss i).arrive ≡ o → elim o [ Some m ↦ m | None ↦ 0 ] ≤ last_minute
     go (Some m) small e = small m e
     go None small e = omega arith
 
-departs_small : (number : ℕ) (ss : List StopRow) → Rules number ss → (i : ℕ) → i < length ss → departure (stop_at ss i) ≤ 2879
+departs_small : (number : ℕ) (ss : List StopRow) → Rules number ss → (i : ℕ) → i < length ss → departure (stop_at ss i) ≤ last_minute
 departs_small number ss rules i h = go (stop_at ss i).depart (λ d e. rules.departs_in_time i d h e) refl
   where
-    go : (o : Option Departure) → ((d : Departure) → (stop_at ss i).depart ≡ Some d → d.minute ≤ 2879) → (stop_at ss i).depart ≡ o → elim o [ Some d ↦ d.minute | None ↦ 0 ] ≤ 2879
+    go : (o : Option Departure) → ((d : Departure) → (stop_at ss i).depart ≡ Some d → d.minute ≤ last_minute) → (stop_at ss i).depart ≡ o → elim o [ Some d ↦ d.minute | None ↦ 0 ] ≤ last_minute
     go (Some d) small e = small d e
     go None small e = omega arith
 
@@ -62,7 +65,7 @@ stops_small (t ∷ ts) rules fares zero =
 stops_small (t ∷ ts) rules fares (suc n) = stops_small ts rules.1 fares.1 n
 
 -- also past the last stop
-leaves_small : (ss : List StopRow) → AllByRecursion Small ss → (i : ℕ) → departure (stop_at ss i) ≤ 2879
+leaves_small : (ss : List StopRow) → AllByRecursion Small ss → (i : ℕ) → departure (stop_at ss i) ≤ last_minute
 leaves_small [] a i = omega arith
 leaves_small (s ∷ ss) a zero = a.0.goes_out
 leaves_small (s ∷ ss) a (suc i) = leaves_small ss a.1 i
@@ -75,17 +78,17 @@ over_whole (s ∷ t ∷ []) a = ((omega (arith, a.1.0.gets_in), a.0.pays), tt)
 over_whole (s ∷ t ∷ u ∷ more) a =
     ((omega (arith, a.1.0.gets_in), a.0.pays), ((omega (arith, a.1.0.goes_out), omega arith), over_whole (t ∷ u ∷ more) a.1))
 
-module _ (trains : List Train) (small : (n : ℕ) → AllByRecursion Small (stops_at trains n)) where
-  rides_whole : (wait : Kind) (since : ℕ) (rides : List Ride) → AllByRecursion Whole (stretches_from trains wait since rides)
+module _ (timetable : Timetable) (q : Query) (small : (n : ℕ) → AllByRecursion Small (stops_at timetable.trains n)) where
+  rides_whole : (wait : Kind) (since : ℕ) (rides : List Ride) → AllByRecursion Whole (stretches_from timetable q wait since rides)
   rides_whole wait since [] = tt
   rides_whole wait since (r ∷ rest) =
-      let out = leaves_small (stops_at trains r.train) (small r.train) r.board in
-      let ss = stops_at trains r.train in (
-        (omega (arith, out, midnight_by r.shift), omega arith),
-        all_append Whole (over (stops_of trains r)) (stretches_from trains Change (arrives trains r) rest)
-            (over_whole (stops_of trains r) (all_drop Small r.board (take (r.alight + 1) ss) (all_take Small (r.alight + 1) ss (small r.train))))
-            (rides_whole Change (arrives trains r) rest),
+      let out = leaves_small (stops_at timetable.trains r.train) (small r.train) r.board in
+      let ss = stops_at timetable.trains r.train in (
+        (omega (arith, out, midnight_by q r.shift), omega arith),
+        all_append Whole (over (stops_of timetable.trains r)) (stretches_from timetable q Change (arrives timetable q r) rest)
+            (over_whole (stops_of timetable.trains r) (all_drop Small r.board (take (r.alight + 1) ss) (all_take Small (r.alight + 1) ss (small r.train))))
+            (rides_whole Change (arrives timetable q r) rest),
       )
 
 pub nothing_is_cut : NothingIsCut
-nothing_is_cut trains q rides rules fares = rides_whole trains (stops_small trains rules fares) Start (ready q) rides
+nothing_is_cut timetable q rides rules fares = rides_whole timetable q (stops_small timetable.trains rules fares) Start (ready q) rides

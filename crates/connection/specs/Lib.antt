@@ -2,11 +2,14 @@ pub mod Cheapest
 pub mod Choosing
 pub mod Clock
 pub mod Connections
-pub mod Labels
+pub mod Listing
+pub mod Moves
 pub mod Prices
 pub mod Rides
 pub mod Settled
+pub mod Shifts
 pub mod SmallTimetable
+pub mod Timetable
 pub mod Underway
 pub mod Ways
 pub mod Whole

@@ -1,21 +1,10 @@
 // The rides of a connection, as a traveller sees them.
 ghost use Rattle.std.specs.Prelude.{◌≡◌};
-ghost use Rattle.desk.specs.Legs.{sets_out, leg_of};
+ghost use Rattle.desk.specs.Legs.{leg_of};
 
 use crate::report::Leg;
 use book::rows::{StopRow, TrainRow};
-use connection::ride::{Ride, Shift};
-
-// The day on which a train with this shift sets out, as seen from a query's day; there is none past the last that 16 bits hold.
-fn sets_out(day: u16, shift: Shift) -> u16
-    ensures { result ≡ sets_out day shift }
-{
-    match shift {
-        Shift::DayBefore => day.saturating_sub(1),
-        Shift::SameDay => day,
-        Shift::DayAfter => day.saturating_add(1),
-    }
-}
+use connection::ride::Ride;
 
 // The ride of a query for this day, if the rows have it.
 pub fn leg_of(day: u16, ride: Ride, trains: &[TrainRow], stops: &[StopRow]) -> Option<Leg>
@@ -29,7 +18,7 @@ pub fn leg_of(day: u16, ride: Ride, trains: &[TrainRow], stops: &[StopRow]) -> O
     let arrives = alight.arrive?;
     Some(Leg {
         train: train.number,
-        day: sets_out(day, ride.shift),
+        day: ride.shift.sets_out(day),
         from: board.station,
         leaves: leave.minute,
         to: alight.station,

@@ -1,5 +1,5 @@
 // The calendar by which a search asks whether a train runs.
-use crate::timetable::Timetable;
+use crate::timetable_file::TimetableFile;
 use crate::{files, queries};
 use anyhow::anyhow;
 use calendar::Calendar;
@@ -61,7 +61,7 @@ fn with_exceptions<C: Calendar + Drop>(
 // Answers the queries by this calendar, with the exceptions of a file if there is one.
 fn answer_by<C: Calendar + Drop>(
     rt: &HostRuntime,
-    timetable: &Timetable,
+    timetable: &TimetableFile,
     calendar: C,
     exceptions: Option<&str>,
 ) -> anyhow::Result<()> {
@@ -77,7 +77,7 @@ fn answer_by<C: Calendar + Drop>(
 // Answers the queries of standard input, by the dates of a file or else by weekdays.
 pub fn answer_queries(
     rt: &HostRuntime,
-    timetable: &Timetable,
+    timetable: &TimetableFile,
     dates: Option<&str>,
     exceptions: Option<&str>,
 ) -> anyhow::Result<()> {

@@ -4,17 +4,17 @@
 mod calendars;
 mod files;
 mod queries;
-mod timetable;
+mod timetable_file;
 mod usage;
 
 use desk::command::{Command, Misuse, command_of};
 use std::env;
 use std::process::ExitCode;
-use timetable::Timetable;
+use timetable_file::TimetableFile;
 
 // Prints how many trains and stops the timetable has, or its first fault.
 fn check(rt: &HostRuntime, file: &str) -> anyhow::Result<ExitCode> {
-    match Timetable::read(rt, file)? {
+    match TimetableFile::read(rt, file)? {
         Ok(timetable) => {
             let trains = timetable.book.trains();
             let stops = timetable.book.stops();
@@ -30,7 +30,7 @@ fn check(rt: &HostRuntime, file: &str) -> anyhow::Result<ExitCode> {
 
 // Prints the timetable as the text that it was read from.
 fn print(rt: &HostRuntime, file: &str) -> anyhow::Result<ExitCode> {
-    match Timetable::read(rt, file)? {
+    match TimetableFile::read(rt, file)? {
         Ok(timetable) => {
             timetable.print(rt)?;
             Ok(ExitCode::SUCCESS)
@@ -49,7 +49,7 @@ fn search(
     dates: Option<&str>,
     exceptions: Option<&str>,
 ) -> anyhow::Result<ExitCode> {
-    match Timetable::read(rt, file)? {
+    match TimetableFile::read(rt, file)? {
         Ok(timetable) => {
             calendars::answer_queries(rt, &timetable, dates, exceptions)?;
             Ok(ExitCode::SUCCESS)

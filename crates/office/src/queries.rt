@@ -1,13 +1,15 @@
 // Answers queries over a timetable.
-use crate::timetable::Timetable;
+use crate::timetable_file::TimetableFile;
 use calendar::Calendar;
 use connection::query::Query;
 use connection::ride::{Ride, Shift};
 use desk::asked::Asked;
 use desk::leg::leg_of;
 use desk::question::{Question, asked_by};
+use search::limits::MOST_CHANGES;
 use search::record::WorkRecord;
 use search::search_in;
+use search::timetable::Timetable;
 use search::work_table::WorkTable;
 use std::fmt;
 use std::io::{BufRead, BufReader};
@@ -17,7 +19,7 @@ use tariff::minutes::{MinuteTotal, Minutes};
 use tariff::waits::{WaitTotal, Waits};
 
 // As many rides as a query may allow.
-const MOST_RIDES: usize = 16;
+const MOST_RIDES: usize = MOST_CHANGES as usize + 1;
 
 const UNUSED: Ride = Ride {
     train: 0,
@@ -48,32 +50,23 @@ impl WorkTables {
 // The cheapest connection under the tariff, ride by ride, and what it costs; or why there is none.
 fn print_found<P: Tariff, C: Calendar>(
     rt: &HostRuntime,
-    timetable: &Timetable,
+    timetable: &Timetable<C>,
     tariff: &P,
-    calendar: &C,
     query: Query,
     work: &mut WorkTable<P::Total>,
 ) -> anyhow::Result<()>
 where
     P::Total: fmt::Display,
 {
-    let Timetable {
-        book,
-        trains,
-        stops,
-        ..
-    } = timetable;
     let mut rides = [UNUSED; MOST_RIDES];
-    let records = timetable.records_for(query);
+    let records = timetable.records_needed(&query);
     if work.len() < records {
         *work = WorkTable::new(vec![in rt.alloc(); WorkRecord::blank(); records]?);
     }
-    match search_in(
-        book, trains, stops, tariff, calendar, query, &mut rides, work,
-    ) {
+    match search_in(timetable, tariff, query, &mut rides, work) {
         Ok((total, count)) => {
             for ride in &rides[..count] {
-                if let Some(leg) = leg_of(query.day, *ride, trains, stops) {
+                if let Some(leg) = leg_of(query.day, *ride, timetable.trains, timetable.stops) {
                     println!(rt; "{leg}")?;
                 }
             }
@@ -90,8 +83,7 @@ where
 // The answer to the question, under the tariff that it asks for.
 fn print_answer<C: Calendar>(
     rt: &HostRuntime,
-    timetable: &Timetable,
-    calendar: &C,
+    timetable: &Timetable<C>,
     question: Question,
     work: &mut WorkTables,
 ) -> anyhow::Result<()> {
@@ -99,24 +91,25 @@ fn print_answer<C: Calendar>(
     let Question { query, tariff } = question;
     match tariff {
         Asked::Minutes { penalty } => match Minutes::new(penalty) {
-            Ok(tariff) => print_found(rt, timetable, &tariff, calendar, query, &mut work.minutes),
+            Ok(tariff) => print_found(rt, timetable, &tariff, query, &mut work.minutes),
             Err(refusal) => {
                 let number = refusal.number();
                 println!(rt; "  refused {number}: {refusal}")?;
                 Ok(())
             }
         },
-        Asked::Fares => print_found(rt, timetable, &Fares, calendar, query, &mut work.fares),
-        Asked::Waits => print_found(rt, timetable, &Waits, calendar, query, &mut work.waits),
+        Asked::Fares => print_found(rt, timetable, &Fares, query, &mut work.fares),
+        Asked::Waits => print_found(rt, timetable, &Waits, query, &mut work.waits),
     }
 }
 
 // Answers each line of standard input as it is read, with an empty line behind each answer. Empty lines ask nothing.
 pub fn answer_all<C: Calendar>(
     rt: &HostRuntime,
-    timetable: &Timetable,
+    file: &TimetableFile,
     calendar: &C,
 ) -> anyhow::Result<()> {
+    let timetable = Timetable::new(&file.book, &file.trains, &file.stops, calendar);
     let mut work = WorkTables::new(rt);
     let lines = BufReader::new(rt.alloc(), rt.stdin())?.split(rt.alloc(), b'\n');
     for (index, line) in lines.enumerate() {
@@ -125,7 +118,7 @@ pub fn answer_all<C: Calendar>(
             continue;
         }
         match asked_by(&line) {
-            Ok(question) => print_answer(rt, timetable, calendar, question, &mut work)?,
+            Ok(question) => print_answer(rt, &timetable, question, &mut work)?,
             Err(expected) => println!(rt; "  LINE {}: expected {expected}", index + 1)?,
         }
         println!(rt; "")?;

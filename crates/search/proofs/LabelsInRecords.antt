@@ -1,14 +1,14 @@
 -- A record that holds a label has its numbers, and so tells who changed from it.
 use Rattle.std.proofs.Common.{◌≡◌, ℕ, suc, ◌+◌, ◌*◌, ◌<◌, List, [], ◌∷◌, ◌++◌, length, get_or, Some, None, Option, sym, refl, ap, ◌∙◌, subst, add_assoc}
 use Rattle.book.specs.Answers.{train_row}
-use Rattle.book.specs.declared.rows.TrainRow.{TrainRow}
 use Rattle.connection.specs.Underway.{ride}
 use Rattle.connection.specs.declared.label.Label.{Label}
 use Rattle.connection.specs.declared.ride.Ride.{Ride}
 use Rattle.connection.specs.declared.ride.Shift.{Shift}
-use Rattle.search.specs.Layers.{row_of, Trail}
+use Rattle.search.specs.Layers.{label_of_run, row_of, Trail}
 use Rattle.search.specs.Records.{blank, record_of, label_of}
-use Rattle.search.specs.Working.{number, place, layer_at, part_at, label_in}
+use Rattle.search.specs.Working.{size_of, number, place, layer_at, part_at}
+use Rattle.search.specs.declared.inquiry.Inquiry.{Inquiry}
 use Rattle.search.specs.declared.record.WorkRecord.{WorkRecord}
 
 module _ {A : Type 0} where
@@ -36,11 +36,13 @@ module _ {A : Type 0} where
   label_kept None = refl
 
 -- who is on board with the label at a place, and changes there, has made the rides before it and this one
-pub trail_goes_on : {A : Type 0} (rows : List TrainRow) (size : ℕ) (table : List (WorkRecord A)) (k n : ℕ) (s : Shift) (i : ℕ) (l : Label A) (rides : List Ride) → n < length rows → i < (train_row n rows).count → label_in size table k s (row_of rows n i) ≡ Some l → Trail rows size table k l.from rides → Trail rows size table (suc k) (place size s (row_of rows n i)) (rides ++ (ride n s l.board i ∷ []))
-trail_goes_on {A} rows size table k n s i l rides ln li e t =
-    let spot = place size s (row_of rows n i) in
-    let r = get_or table (part_at size k s + row_of rows n i) blank in
-    let same : get_or table (layer_at size k + spot) blank ≡ r = ap (λ x. get_or table x blank) (sym (add_assoc (layer_at size k) (number s * size) (row_of rows n i))) in
-    let from : l.from ≡ (get_or table (layer_at size k + spot) blank).from = sym (ap (λ (x : WorkRecord A). x.from) same ∙ label_from r l e) in
-    let board : l.board ≡ (get_or table (layer_at size k + spot) blank).board = sym (ap (λ (x : WorkRecord A). x.board) same ∙ label_board r l e) in
-    (n, s, i, record { in_force = ln; on_the_train = li; is = refl }, rides, subst (λ (f : ℕ). Trail rows size table k f rides) from t, ap (λ b. rides ++ (ride n s b i ∷ [])) board)
+pub trail_goes_on : {P A : Type 0} (inquiry : Inquiry P) (table : List (WorkRecord A)) (k n : ℕ) (s : Shift) (i : ℕ) (l : Label A) (rides : List Ride) → n < length inquiry.trains.now → i < (train_row n inquiry.trains.now).count → label_of_run inquiry table k n s i ≡ Some l → Trail inquiry table k l.from rides → Trail inquiry table (suc k) (place (size_of inquiry) s (row_of inquiry.trains.now n i)) (rides ++ (ride n s l.board i ∷ []))
+trail_goes_on inquiry table k n s i l rides ln li e t =
+    let size = size_of inquiry in
+    let row = row_of inquiry.trains.now n i in
+    let spot = place size s row in
+    let r = get_or table (part_at size k s + row) blank in
+    let same : get_or table (layer_at size k + spot) blank ≡ r = ap (λ x. get_or table x blank) (sym (add_assoc (layer_at size k) (number s * size) row)) in
+    let from : l.from ≡ (get_or table (layer_at size k + spot) blank).from = sym (ap (λ (x : WorkRecord _). x.from) same ∙ label_from r l e) in
+    let board : l.board ≡ (get_or table (layer_at size k + spot) blank).board = sym (ap (λ (x : WorkRecord _). x.board) same ∙ label_board r l e) in
+    (n, s, i, record { in_force = ln; on_the_train = li; is = refl }, rides, subst (λ (f : ℕ). Trail inquiry table k f rides) from t, ap (λ b. rides ++ (ride n s b i ∷ [])) board)

@@ -1,5 +1,5 @@
 -- Of the labels at a place the latest is the cheapest, as none is written that an earlier one beats.
-use Rattle.std.proofs.Common.{◌≡◌, ℕ, zero, suc, ◌+◌, ◌*◌, ◌<◌, ◌≤◌, Bool, true, false, ◌||◌, T, ◌≢◌, List, length, get_or, set, Some, None, Option, IfSome, sym, refl, ap, ap₂, ◌∙◌, subst, inl, inr, arith, get_or-set_other, get_or-set_same}
+use Rattle.std.proofs.Common.{◌≡◌, ℕ, zero, suc, ◌+◌, ◌<◌, ◌≤◌, Bool, true, false, ◌||◌, T, ◌≢◌, List, length, get_or, set, Some, None, Option, IfSome, sym, refl, ap, ap₂, ◌∙◌, subst, inl, inr, arith, get_or-set_other, get_or-set_same}
 use Rattle.std.proofs.Math.Bool.{or-false}
 use Rattle.std.proofs.lemmas.Bool.{cases_lt}
 use Rattle.std.proofs.lemmas.List.{length-set, length-replicate, get_or-replicate}
@@ -13,6 +13,7 @@ use Rattle.search.specs.Records.{record_of, label_of}
 use Rattle.search.specs.Working.{layer_at, label_at, costs_no_more, beaten}
 use Rattle.search.specs.declared.notes.Notes.{Notes}
 use Rattle.search.specs.declared.record.WorkRecord.{WorkRecord}
+use Rattle.search.specs.Limits.{layer_size, most_places}
 use Rattle.search.proofs.BeatenLabels.{beater}
 use Rattle.search.proofs.BlankRecords.{blank_label}
 use Rattle.search.proofs.Layering.{next_layer, layers_below}
@@ -97,13 +98,13 @@ module _ {A : Type 0} (m : Meaning A) (size k : ℕ) where
         behind = λ z lz inside. h.behind z (omega arith) inside;
       }
 
-  module _ (connex : Connex m) (transitive : Transitive m) (x at : ℕ) (at_is : at ≡ layer_at size k + x) (far : x < 3 * size) (few : 3 * size ≤ 12288) (old new : List (WorkRecord A)) (room : at < length old) (n : Notes) (h : LatestDecide m size old k x n) where
+  module _ (connex : Connex m) (transitive : Transitive m) (x at : ℕ) (at_is : at ≡ layer_at size k + x) (far : x < layer_size size) (few : layer_size size ≤ most_places) (old new : List (WorkRecord A)) (room : at < length old) (n : Notes) (h : LatestDecide m size old k x n) where
     module _ (o : Option (Label A)) (is_new : new ≡ set old at (record_of o)) where
       kept : (j z : ℕ) → layer_at size j + z < at → label_at new (layer_at size j + z) ≡ label_at old (layer_at size j + z)
       kept j z l = ap (λ t. label_at t (layer_at size j + z)) is_new ∙ ap label_of (written_same old at o (layer_at size j + z) (inl l))
 
       -- the layers ahead are
-      earlier : (z j : ℕ) → z < 3 * size → j < k → layer_at size j + z < at
+      earlier : (z j : ℕ) → z < layer_size size → j < k → layer_at size j + z < at
       earlier z j inside l = omega (arith, at_is, next_layer size j, layers_below size (suc j) k l)
 
       -- and in the layer itself the places ahead
@@ -113,10 +114,10 @@ module _ {A : Type 0} (m : Meaning A) (size k : ℕ) where
       here : label_at new (layer_at size k + x) ≡ o
       here = ap (label_at new) (sym at_is) ∙ ap (λ t. label_at t at) is_new ∙ written_here old at o room
 
-      still_ahead : (z : ℕ) → z < x → z < 3 * size → Decides m size new (suc k) z (get_or n.latest z None)
+      still_ahead : (z : ℕ) → z < x → z < layer_size size → Decides m size new (suc k) z (get_or n.latest z None)
       still_ahead z b inside = decides_same m size z old new (suc k) (λ j l. kept j z (so_far z j b l)) (get_or n.latest z None) (h.ahead z b inside)
 
-      still_behind : (z : ℕ) → x ≤ z → z < 3 * size → Decides m size new k z (get_or n.latest z None)
+      still_behind : (z : ℕ) → x ≤ z → z < layer_size size → Decides m size new k z (get_or n.latest z None)
       still_behind z g inside = decides_same m size z old new k (λ j l. kept j z (earlier z j inside l)) (get_or n.latest z None) (h.behind z g inside)
 
     pub latest_none : new ≡ set old at (record_of None) → LatestDecide m size new k (x + 1) n
@@ -156,7 +157,7 @@ module _ {A : Type 0} (m : Meaning A) (size k : ℕ) where
                 subst (Decides m size new k z) (sym (get_or-set_other n.latest x z (Some k) None ne)) (still_behind (Some l) is_new z (omega arith) inside);
           }
 
-  pub latest_next : (table : List (WorkRecord A)) (n : Notes) → LatestDecide m size table k (3 * size) n → LatestDecide m size table (k + 1) 0 (for_next_layer n)
+  pub latest_next : (table : List (WorkRecord A)) (n : Notes) → LatestDecide m size table k (layer_size size) n → LatestDecide m size table (k + 1) 0 (for_next_layer n)
   latest_next table n h =
       let up : suc k ≡ k + 1 = omega arith in
       record {
@@ -165,10 +166,10 @@ module _ {A : Type 0} (m : Meaning A) (size k : ℕ) where
         behind = λ z lz inside. subst (λ (j : ℕ). Decides m size table j z (get_or n.latest z None)) up (h.ahead z inside inside);
       }
 
-pub latest_first : {A : Type 0} (m : Meaning A) (size : ℕ) (table : List (WorkRecord A)) → 3 * size ≤ 12288 → LatestDecide m size table 0 0 no_notes
+pub latest_first : {A : Type 0} (m : Meaning A) (size : ℕ) (table : List (WorkRecord A)) → layer_size size ≤ most_places → LatestDecide m size table 0 0 no_notes
 latest_first m size table few =
     record {
-      long = length-replicate {A = Option ℕ} 12288 None;
+      long = length-replicate {A = Option ℕ} most_places None;
       ahead = λ z lz inside. absurd (omega arith);
-      behind = λ z lz inside. subst (Decides m size table 0 z) (sym (get_or-replicate 12288 z None None (omega arith))) (record { earlier = tt; as_all = λ t. refl });
+      behind = λ z lz inside. subst (Decides m size table 0 z) (sym (get_or-replicate most_places z None None (omega arith))) (record { earlier = tt; as_all = λ t. refl });
     }

@@ -13,6 +13,7 @@ mod KnownEnds
 mod LabelsInRecords
 mod LatestLabels
 mod Layering
+mod Leading
 mod LeftStops
 mod ListedLabels
 mod ListedPlaces

@@ -9,6 +9,7 @@ use Rattle.search.specs.Records.{record_of, label_of}
 use Rattle.search.specs.Working.{layer_at, label_at}
 use Rattle.search.specs.declared.notes.Notes.{Notes}
 use Rattle.search.specs.declared.record.WorkRecord.{WorkRecord}
+use Rattle.search.specs.Limits.{most_places}
 use Rattle.search.proofs.BlankRecords.{blank_label}
 use Rattle.search.proofs.WrittenRecords.{written_same, written_here}
 
@@ -67,7 +68,7 @@ module _ {A : Type 0} (size k : ℕ) where
             let e : at ≡ layer_at size k + z = omega (arith, at_is) in
             subst (λ (y : ℕ). label_at new y ≡ None) e (ap (λ t. label_at t at) is_new ∙ written_here old at None room)
 
-    module _ (few_places : x < 12288) (l : Label A) (is_new : new ≡ set old at (record_of (Some l))) where
+    module _ (few_places : x < most_places) (l : Label A) (is_new : new ≡ set old at (record_of (Some l))) where
       abbrev n' : Notes
       n' = with_note n k x at
 
@@ -121,7 +122,7 @@ module _ {A : Type 0} (size k : ℕ) where
           }
 
 -- ---- a layer begins with none
-nothing_listed : {A : Type 0} (size k : ℕ) (table : List (WorkRecord A)) (n : Notes) → length n.places ≡ 12288 → n.count ≡ 0 → Listed size k 0 table n
+nothing_listed : {A : Type 0} (size k : ℕ) (table : List (WorkRecord A)) (n : Notes) → length n.places ≡ most_places → n.count ≡ 0 → Listed size k 0 table n
 nothing_listed size k table n long none =
     record {
       long = long;
@@ -132,7 +133,7 @@ nothing_listed size k table n long none =
     }
 
 pub listed_first : {A : Type 0} (size : ℕ) (table : List (WorkRecord A)) → Listed size 0 0 table no_notes
-listed_first size table = nothing_listed size 0 table no_notes (length-replicate {A = ℕ} 12288 0) refl
+listed_first size table = nothing_listed size 0 table no_notes (length-replicate {A = ℕ} most_places 0) refl
 
 pub listed_next : {A : Type 0} (size k x : ℕ) (table : List (WorkRecord A)) (n : Notes) → Listed size k x table n → Listed size (k + 1) 0 table (for_next_layer n)
 listed_next size k x table n h = nothing_listed size (k + 1) table (for_next_layer n) h.long refl

@@ -2,7 +2,6 @@
 use Rattle.std.proofs.Common.{◌≡◌, ℕ, ◌+◌, ◌<◌, ◌≤◌, true, false, ◌⊎◌, min, List, sym, refl, ap, ◌∙◌, subst, inl, inr, arith, ◌&&◌, leb, ap₂, Bool}
 use Rattle.std.proofs.lemmas.Bool.{cases_lt, lt-leb, le-leb}
 use Rattle.book.specs.Answers.{train_row}
-use Rattle.book.specs.Rules.{stop_at}
 use Rattle.book.specs.declared.rows.StopRow.{StopRow}
 use Rattle.book.specs.declared.rows.TrainRow.{TrainRow}
 use Rattle.connection.specs.Clock.{midnight}
@@ -12,10 +11,18 @@ use Rattle.connection.specs.declared.ride.Shift.{Shift}
 use Rattle.connection.specs.declared.ride.Shift.TheVariants.{DayBefore, SameDay, DayAfter}
 use Rattle.search.specs.Chains.{missed_at, never, OutOfReach, WithinReach}
 use Rattle.search.specs.declared.chains.Arrivals.{Arrivals}
+use Rattle.search.specs.declared.inquiry.Inquiry.{Inquiry}
+use Rattle.search.specs.Working.{stop_in}
 
-module _ {A : Type 0} (rows : List TrainRow) (stops : List StopRow) (k : ℕ) (q : Query) (arrivals : Arrivals A) (n : ℕ) where
+module _ {P A : Type 0} (inquiry : Inquiry P) (k : ℕ) (arrivals : Arrivals A) (n : ℕ) where
+  abbrev rows : List TrainRow
+  rows = inquiry.trains.now
+
+  abbrev q : Query
+  q = inquiry.query.now
+
   abbrev stop : ℕ → StopRow
-  stop i = stop_at stops ((train_row n rows).first + i)
+  stop i = stop_in inquiry ((train_row n rows).first + i)
 
   abbrev late : ℕ → ℕ
   late i = missed_at arrivals k q (stop i)
@@ -54,22 +61,22 @@ module _ {A : Type 0} (rows : List TrainRow) (stops : List StopRow) (k : ℕ) (q
         }
 
   -- ---- all stops
-  no_day : (s : Shift) → midnight s < never
+  no_day : (s : Shift) → midnight q s < never
   no_day DayBefore = omega arith
   no_day SameDay = omega arith
   no_day DayAfter = omega arith
 
   module _ (fewest : ℕ) (all : MissedBy (train_row n rows).count fewest) (s : Shift) where
-    pub out_of_reach : midnight s < fewest → OutOfReach rows stops k q arrivals n s
+    pub out_of_reach : midnight q s < fewest → OutOfReach inquiry k arrivals n s
     out_of_reach h i li = go (may_board (stop i)) refl
       where
-        go : (b : Bool) → may_board (stop i) ≡ b → (b && leb (late i) (midnight s)) ≡ false
+        go : (b : Bool) → may_board (stop i) ≡ b → (b && leb (late i) (midnight q s)) ≡ false
         go false e = refl
-        go true e = lt-leb (late i) (midnight s) (omega (arith, all.at_most i li e))
+        go true e = lt-leb (late i) (midnight q s) (omega (arith, all.at_most i li e))
 
-    pub within_reach : fewest ≤ midnight s → WithinReach rows stops k q arrivals n s
+    pub within_reach : fewest ≤ midnight q s → WithinReach inquiry k arrivals n s
     within_reach h =
         elim all.is_one [
           | inl e ↦ absurd (omega (arith, e, no_day s))
-          | inr w ↦ (w.0, w.1, ap₂ (λ a b. a && b) w.2 (le-leb (late w.0) (midnight s) (omega (arith, w.3))))
+          | inr w ↦ (w.0, w.1, ap₂ (λ a b. a && b) w.2 (le-leb (late w.0) (midnight q s) (omega (arith, w.3))))
         ]

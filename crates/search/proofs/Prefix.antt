@@ -5,14 +5,15 @@ use Rattle.std.proofs.lemmas.Bool.{and_parts, leb-true, eqb-true}
 use Rattle.book.specs.Trains.{Train, gapless, all_sound, all_stops, trains_in, train_at, listed, holds}
 use Rattle.book.specs.declared.rows.StopRow.{StopRow}
 use Rattle.book.specs.declared.rows.TrainRow.{TrainRow}
-use Rattle.search.specs.Layers.{InOrder}
+use Rattle.search.specs.Rows.{InOrder}
+use Rattle.book.specs.Limits.{most_stops}
 use Rattle.search.proofs.RowsAreTrains.{gapless_first, gapless_ends}
 
 -- ---- what holding says
 record Held (n s : ℕ) (trains : List TrainRow) (stops : List StopRow) : Type 0 where
   few_trains : n ≤ 512
   trains_fit : n ≤ length trains
-  few_stops : s ≤ 4096
+  few_stops : s ≤ most_stops
   stops_fit : s ≤ length stops
   no_gap : gapless 0 s (take n trains) ≡ true
   are_sound : all_sound (listed n trains stops) ≡ true

@@ -1,11 +1,11 @@
 -- Rows in order hold trains that keep the rules, and each stop row is one of their stops, so its times and its station are within the limits.
-use Rattle.std.proofs.Common.{◌≡◌, ℕ, zero, suc, ◌+◌, ◌-◌, ◌*◌, ◌<◌, ◌≤◌, true, eqb, ◌⊎◌, List, [], ◌∷◌, length, drop, Some, None, Option, sym, refl, ap, ◌∙◌, subst, inl, inr, arith, length-drop}
+use Rattle.std.proofs.Common.{◌≡◌, ℕ, zero, suc, ◌+◌, ◌-◌, ◌<◌, ◌≤◌, true, eqb, ◌⊎◌, List, [], ◌∷◌, length, drop, Some, None, Option, sym, refl, ap, ◌∙◌, subst, inl, inr, arith, length-drop}
 use lib.ListN.{length-map}
 use Rattle.std.proofs.ByRecursion.{All-get_or}
 use Rattle.std.proofs.lemmas.List.{length-take-le, get_or-take, get_or-drop, get_or-map}
 use Rattle.std.proofs.lemmas.Bool.{and_parts, eqb-true, cases_lt, cases_order}
 use Rattle.book.specs.Answers.{train_row}
-use Rattle.book.specs.Limits.{last_minute, last_station}
+use Rattle.book.specs.Limits.{last_minute, last_station, most_stops_of_train}
 use Rattle.book.specs.Rules.{stop_at, Rules, SoundIsTheRules}
 use Rattle.book.specs.Stops.{sound}
 use Rattle.book.specs.Trains.{Train, gapless, all_sound, trains_in, train_at}
@@ -17,12 +17,13 @@ use Rattle.connection.specs.Whole.{KeepTheRules}
 use Rattle.connection.specs.declared.ride.Shift.{Shift}
 use Rattle.connection.specs.declared.ride.Shift.TheVariants.{DayBefore, SameDay, DayAfter}
 use Rattle.connection.proofs.Times.{on_time}
-use Rattle.search.specs.Changing.{Timely}
-use Rattle.search.specs.Layers.{InOrder, row_of}
+use Rattle.search.specs.Layers.{row_of}
+use Rattle.search.specs.Limits.{layer_size}
+use Rattle.search.specs.Rows.{InOrder, Timely}
 use Rattle.search.specs.Working.{place}
 
 -- ---- places
-pub place_below : (s : Shift) (size row : ℕ) → row < size → place size s row < 3 * size
+pub place_below : (s : Shift) (size row : ℕ) → row < size → place size s row < layer_size size
 place_below DayBefore size row h = omega arith
 place_below SameDay size row h = omega arith
 place_below DayAfter size row h = omega arith
@@ -198,7 +199,7 @@ module _ (rows : List TrainRow) (stops : List StopRow) (ok : InOrder rows stops)
   rules_of : KeepTheRules (trains_in rows stops) → (n : ℕ) → n < length rows → Rules (train_in_row (trains_in rows stops) n).number (stops_at (trains_in rows stops) n)
   rules_of lawful n h = All-get_or (λ (t : Train). Rules t.number t.stops) (trains_in rows stops) n _ (omega (arith, many rows stops)) lawful
 
-  pub few_stops_of : KeepTheRules (trains_in rows stops) → (n : ℕ) → n < length rows → (train_row n rows).count ≤ 64
+  pub few_stops_of : KeepTheRules (trains_in rows stops) → (n : ℕ) → n < length rows → (train_row n rows).count ≤ most_stops_of_train
   few_stops_of lawful n h = omega (arith, count_is n h, (rules_of lawful n h).not_many)
 
   pub timely : SoundIsTheRules → Timely stops

@@ -4,10 +4,11 @@ use Rattle.std.proofs.lemmas.Bool.{cases_lt}
 use Rattle.std.proofs.lemmas.List.{length-set, length-replicate}
 use Rattle.connection.specs.declared.label.Label.{Label}
 use Rattle.search.specs.Layers.{BlankFrom}
-use Rattle.search.specs.Notes.{block, blocks, no_notes, with_note, BlankElsewhere}
+use Rattle.search.specs.Notes.{no_notes, with_note, BlankElsewhere}
 use Rattle.search.specs.Records.{blank, record_of}
 use Rattle.search.specs.declared.notes.Notes.{Notes}
 use Rattle.search.specs.declared.record.WorkRecord.{WorkRecord}
+use Rattle.search.specs.Limits.{block, blocks}
 
 module _ {A : Type 0} (at : ℕ) (old new : List (WorkRecord A)) (n : Notes) (h : BlankElsewhere old n) where
   same_record : (o : Option (Label A)) → new ≡ set old at (record_of o) → (z : ℕ) → z ≢ at → get_or new z blank ≡ get_or old z blank

@@ -1,7 +1,6 @@
 -- What the layers before a layer tell is the same in two tables that agree on them, and stays so where a cheaper end is known.
-use Rattle.std.proofs.Common.{◌≡◌, ℕ, zero, suc, ◌+◌, ◌-◌, ◌*◌, ◌<◌, ◌≤◌, List, [], ◌∷◌, ◌++◌, length, get_or, Option, sym, ap, ◌∙◌, subst, add_assoc, arith}
+use Rattle.std.proofs.Common.{◌≡◌, ℕ, zero, suc, ◌+◌, ◌-◌, ◌*◌, ◌<◌, ◌≤◌, List, [], ◌∷◌, ◌++◌, get_or, Option, sym, ap, ◌∙◌, subst, add_assoc, arith}
 use Rattle.tariff.specs.Meaning.{Meaning}
-use Rattle.book.specs.Trains.{trains_in}
 use Rattle.book.specs.declared.rows.StopRow.{StopRow}
 use Rattle.book.specs.declared.rows.TrainRow.{TrainRow}
 use Rattle.calendar.specs.Pairs.{Pairs}
@@ -15,11 +14,13 @@ use Rattle.connection.specs.declared.ride.Shift.{Shift}
 use Rattle.connection.proofs.Settling.{settles_same, excused_more}
 use Rattle.search.specs.Chains.{LinkedBefore, promising}
 use Rattle.search.specs.Ends.{known_total, NoDearer}
-use Rattle.search.specs.Layers.{InOrder, row_of, Spot, Trail, Holds, Filled, UnchangedBelow}
+use Rattle.search.specs.Layers.{row_of, Spot, Trail, Holds, Filled, UnchangedBelow}
+use Rattle.search.specs.Limits.{layer_size}
 use Rattle.search.specs.Records.{blank, label_of}
-use Rattle.search.specs.Working.{number, layer_at, part_at, label_in, if_promising}
+use Rattle.search.specs.Working.{size_of, asked_over, number, layer_at, part_at, label_in, if_promising}
 use Rattle.search.specs.declared.chains.Arrivals.{Arrivals}
 use Rattle.search.specs.declared.ends.End.{End}
+use Rattle.search.specs.declared.inquiry.Inquiry.{Inquiry}
 use Rattle.search.specs.declared.record.WorkRecord.{WorkRecord}
 use Rattle.search.proofs.Chaining.{chained_same}
 use Rattle.search.proofs.Layering.{next_layer, layers_below}
@@ -41,27 +42,36 @@ module _ {A : Type 0} where
       ap label_of (u (part_at size k s + row) (omega (arith, add_assoc (layer_at size k) (number s * size) row, place_below s size row h, next_layer size k, layers_below size (suc k) layer l)))
 
 -- ---- chains
-pub linked_same : {A : Type 0} (m : Meaning A) (stops : List StopRow) (layer : ℕ) (old new : List (WorkRecord A)) (a : Arrivals A) (before after : Option (End A)) → UnchangedBelow (layer_at (length stops) layer) old new → NoDearer m before after → LinkedBefore m stops old layer a before → LinkedBefore m stops new layer a after
-linked_same m stops layer old new a before after u better h =
-    let size = length stops in
+pub linked_same : {P A : Type 0} (m : Meaning A) (inquiry : Inquiry P) (layer : ℕ) (old new : List (WorkRecord A)) (a : Arrivals A) (before after : Option (End A)) → UnchangedBelow (layer_at (size_of inquiry) layer) old new → NoDearer m before after → LinkedBefore m inquiry old layer a before → LinkedBefore m inquiry new layer a after
+linked_same m inquiry layer old new a before after u better h =
+    let size = size_of inquiry in
     let known = known_total a.known in
     record {
-      chained = λ later. chained_same stops (promising m size known old (layer - 1)) (promising m size known new (layer - 1)) (3 * size) (λ s row i w. ap (if_promising m known) (label_same size (layer - 1) layer s row old new (omega arith) i u)) a (h.chained later);
+      chained = λ later. chained_same inquiry (promising m inquiry old known (layer - 1)) (promising m inquiry new known (layer - 1)) (layer_size size) (λ s row i w. ap (if_promising m known) (label_same size (layer - 1) layer s row old new (omega arith) i u)) a (h.chained later);
       no_dearer = λ t w. better t (h.no_dearer t w);
     }
 
 -- ---- trails
-module _ {A : Type 0} (m : Meaning A) (runs : Pairs) (q : Query) (rows : List TrainRow) (stops : List StopRow) (ok : InOrder rows stops) where
-  spot_below : (n : ℕ) (s : Shift) (i f : ℕ) → Spot rows (length stops) n s i f → f < 3 * length stops
-  spot_below n s i f p =
-      let inside = fits rows stops ok n p.in_force in
-      let within = p.on_the_train in
-      omega (arith, p.is, place_below s (length stops) (row_of rows n i) (omega arith))
+module _ {P A : Type 0} (m : Meaning A) (inquiry : Inquiry P) (runs : Pairs) where
+  abbrev rows : List TrainRow
+  rows = inquiry.trains.now
 
-  pub trail_same : (k f : ℕ) (rides : List Ride) (old new : List (WorkRecord A)) → UnchangedBelow (layer_at (length stops) k) old new → Trail rows (length stops) old k f rides → Trail rows (length stops) new k f rides
+  abbrev stops : List StopRow
+  stops = inquiry.stops.now
+
+  abbrev q : Query
+  q = inquiry.query.now
+
+  spot_below : (n : ℕ) (s : Shift) (i f : ℕ) → Spot inquiry n s i f → f < layer_size (size_of inquiry)
+  spot_below n s i f p =
+      let inside = fits rows stops inquiry.ordered n p.in_force in
+      let within = p.on_the_train in
+      omega (arith, p.is, place_below s (size_of inquiry) (row_of rows n i) (omega arith))
+
+  pub trail_same : (k f : ℕ) (rides : List Ride) (old new : List (WorkRecord A)) → UnchangedBelow (layer_at (size_of inquiry) k) old new → Trail inquiry old k f rides → Trail inquiry new k f rides
   trail_same zero f rides old new u t = t
   trail_same (suc k) f rides old new u t =
-      let size = length stops in
+      let size = size_of inquiry in
       let same : get_or new (layer_at size k + f) blank ≡ get_or old (layer_at size k + f) blank = u (layer_at size k + f) (omega (arith, next_layer size k, spot_below t.0 t.1 t.2 f t.3)) in
       let less : UnchangedBelow (layer_at size k) old new = unchanged_less (layer_at size (suc k)) (layer_at size k) old new (layers_below size k (suc k) (omega arith)) u in (
         t.0,
@@ -69,31 +79,31 @@ module _ {A : Type 0} (m : Meaning A) (runs : Pairs) (q : Query) (rows : List Tr
         t.2,
         t.3,
         t.4,
-        subst (λ (g : ℕ). Trail rows size new k g t.4) (sym (ap (λ (r : WorkRecord A). r.from) same)) (trail_same k (get_or old (layer_at size k + f) blank).from t.4 old new less t.5),
+        subst (λ (g : ℕ). Trail inquiry new k g t.4) (sym (ap (λ (r : WorkRecord A). r.from) same)) (trail_same k (get_or old (layer_at size k + f) blank).from t.4 old new less t.5),
         t.6 ∙ ap (λ b. t.4 ++ (ride t.0 t.1 b t.2 ∷ [])) (sym (ap (λ (r : WorkRecord A). r.board) same)),
       )
 
-  pub holds_same : (known : Option A) (k n : ℕ) (s : Shift) (i : ℕ) (o : Option (Label A)) (old new : List (WorkRecord A)) → UnchangedBelow (layer_at (length stops) k) old new → Holds m runs q rows stops known old k n s i o → Holds m runs q rows stops known new k n s i o
+  pub holds_same : (known : Option A) (k n : ℕ) (s : Shift) (i : ℕ) (o : Option (Label A)) (old new : List (WorkRecord A)) → UnchangedBelow (layer_at (size_of inquiry) k) old new → Holds m inquiry runs known old k n s i o → Holds m inquiry runs known new k n s i o
   holds_same known k n s i o old new u h =
       settles_same m _ _ _ _ _ _ o (λ t x. x) (λ t x. x) (λ t d. d) (λ l x. (x.0, x.1, trail_same k l.from x.0.boarded.rides old new u x.2)) h
 
-  pub boarding_same : (known : Option A) (k n : ℕ) (s : Shift) (i : ℕ) (o : Option (Label A)) (old new : List (WorkRecord A)) → UnchangedBelow (layer_at (length stops) k) old new → SettlesBoarding m (trains_in rows stops) runs q (Trail rows (length stops) old k) known k n s i o → SettlesBoarding m (trains_in rows stops) runs q (Trail rows (length stops) new k) known k n s i o
+  pub boarding_same : (known : Option A) (k n : ℕ) (s : Shift) (i : ℕ) (o : Option (Label A)) (old new : List (WorkRecord A)) → UnchangedBelow (layer_at (size_of inquiry) k) old new → SettlesBoarding m (asked_over inquiry runs) q (Trail inquiry old k) known k n s i o → SettlesBoarding m (asked_over inquiry runs) q (Trail inquiry new k) known k n s i o
   boarding_same known k n s i o old new u h =
       settles_same m _ _ _ _ _ _ o (λ t x. x) (λ t x. x) (λ t d. d) (λ l x. (x.0, x.1, trail_same k l.from x.0.rides old new u x.2)) h
 
-  pub filled_same : (known : Option A) (layers : ℕ) (old new : List (WorkRecord A)) → UnchangedBelow (layer_at (length stops) layers) old new → Filled m runs q rows stops known old layers → Filled m runs q rows stops known new layers
+  pub filled_same : (known : Option A) (layers : ℕ) (old new : List (WorkRecord A)) → UnchangedBelow (layer_at (size_of inquiry) layers) old new → Filled m inquiry runs known old layers → Filled m inquiry runs known new layers
   filled_same known layers old new u f k n s i lk ln li =
-      let size = length stops in
+      let size = size_of inquiry in
       let row = row_of rows n i in
-      let inside = fits rows stops ok n ln in
+      let inside = fits rows stops inquiry.ordered n ln in
       let less : UnchangedBelow (layer_at size k) old new = unchanged_less (layer_at size layers) (layer_at size k) old new (layers_below size k layers (omega arith)) u in
-      subst (Holds m runs q rows stops known new k n s i) (sym (label_same size k layers s row old new lk (omega arith) u)) (holds_same known k n s i (label_in size old k s row) old new less (f k n s i lk ln li))
+      subst (Holds m inquiry runs known new k n s i) (sym (label_same size k layers s row old new lk (omega arith) u)) (holds_same known k n s i (label_in size old k s row) old new less (f k n s i lk ln li))
 
   -- ---- where a cheaper end is known
   module _ (before after : Option (End A)) (better : NoDearer m before after) where
-    pub holds_still : (k n : ℕ) (s : Shift) (i : ℕ) (o : Option (Label A)) (table : List (WorkRecord A)) → Holds m runs q rows stops (known_total before) table k n s i o → Holds m runs q rows stops (known_total after) table k n s i o
+    pub holds_still : (k n : ℕ) (s : Shift) (i : ℕ) (o : Option (Label A)) (table : List (WorkRecord A)) → Holds m inquiry runs (known_total before) table k n s i o → Holds m inquiry runs (known_total after) table k n s i o
     holds_still k n s i o table h =
-        settles_same m _ _ _ _ _ _ o (λ t x. x) (λ t x. x) (excused_more m (λ j. Arrives m (trains_in rows stops) runs q j n s i) k (known_total before) (known_total after) better) (λ l x. x) h
+        settles_same m _ _ _ _ _ _ o (λ t x. x) (λ t x. x) (excused_more m (λ j. Arrives m (asked_over inquiry runs) q j n s i) k (known_total before) (known_total after) better) (λ l x. x) h
 
-    pub filled_still : (layers : ℕ) (table : List (WorkRecord A)) → Filled m runs q rows stops (known_total before) table layers → Filled m runs q rows stops (known_total after) table layers
-    filled_still layers table f k n s i lk ln li = holds_still k n s i (label_in (length stops) table k s (row_of rows n i)) table (f k n s i lk ln li)
+    pub filled_still : (layers : ℕ) (table : List (WorkRecord A)) → Filled m inquiry runs (known_total before) table layers → Filled m inquiry runs (known_total after) table layers
+    filled_still layers table f k n s i lk ln li = holds_still k n s i (label_in (size_of inquiry) table k s (row_of rows n i)) table (f k n s i lk ln li)

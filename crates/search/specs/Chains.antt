@@ -1,20 +1,20 @@
 -- The places of a layer with a promising label, chained by station, the last of a station first.
-use Rattle.std.specs.Prelude.{◌≡◌, ℕ, zero, suc, ◌+◌, ◌*◌, ◌-◌, ◌<◌, ◌≤◌, Bool, true, false, ◌&&◌, nat_le, cond, min, List, length, replicate, is_some, Some, None, Option, IfSome, slice_index_or, slice_set, ◌==◌}
+use Rattle.std.specs.Prelude.{◌≡◌, ℕ, zero, suc, ◌-◌, ◌<◌, ◌≤◌, Bool, true, false, ◌&&◌, nat_le, cond, min, List, length, replicate, is_some, Some, None, Option, IfSome, slice_index_or, slice_set, ◌==◌, ◌+◌}
 use Rattle.tariff.specs.Meaning.{Meaning}
 use Rattle.book.specs.Answers.{train_row}
 use Rattle.book.specs.Limits.{last_station}
-use Rattle.book.specs.Rules.{stop_at}
 use Rattle.book.specs.declared.rows.StopRow.{StopRow}
-use Rattle.book.specs.declared.rows.TrainRow.{TrainRow}
 use Rattle.connection.specs.Clock.{midnight, ready}
-use Rattle.connection.specs.Rides.{may_board, may_alight, arrival, departure}
+use Rattle.connection.specs.Rides.{may_board, may_alight, departure, reaches_at}
 use Rattle.connection.specs.declared.label.Label.{Label}
 use Rattle.connection.specs.declared.query.Query.{Query}
 use Rattle.connection.specs.declared.ride.Shift.{Shift}
 use Rattle.search.specs.Ends.{known_total, NoDearer}
-use Rattle.search.specs.Working.{place, label_in, if_promising}
+use Rattle.search.specs.Limits.{stations, layer_size, most_places}
+use Rattle.search.specs.Working.{size_of, stop_in, place, label_in, if_promising}
 use Rattle.search.specs.declared.chains.Arrivals.{Arrivals}
 use Rattle.search.specs.declared.ends.End.{End}
+use Rattle.search.specs.declared.inquiry.Inquiry.{Inquiry}
 use Rattle.search.specs.declared.record.WorkRecord.{WorkRecord}
 
 -- ---- what is written in the chains
@@ -23,16 +23,16 @@ abbrev pub never : ℕ
 never = 65535
 
 -- the minute at which who is on board the run of that shift comes to the stop, if one may alight there
-abbrev pub comes : StopRow → Shift → ℕ
-comes stop s = cond (may_alight stop) (arrival stop + midnight s) never
+abbrev pub comes : Query → StopRow → Shift → ℕ
+comes q stop s = cond (may_alight stop) (reaches_at q s stop) never
 
 -- nobody has arrived anywhere
 abbrev pub no_arrivals : {A : Type 0} → Arrivals A
-no_arrivals = record { heads = replicate 1024 None; nexts = replicate 12288 None; minutes = replicate 12288 0; earliest = replicate 1024 never; known = None }
+no_arrivals = record { heads = replicate stations None; nexts = replicate most_places None; minutes = replicate most_places 0; earliest = replicate stations never; known = None }
 
 -- the chains of a new layer: what comes next counts only behind a first place
 abbrev pub cleared : {A : Type 0} → Arrivals A → Option (End A) → Arrivals A
-cleared a known = record { heads = replicate 1024 None; nexts = a.nexts; minutes = a.minutes; earliest = replicate 1024 never; known = known }
+cleared a known = record { heads = replicate stations None; nexts = a.nexts; minutes = a.minutes; earliest = replicate stations never; known = known }
 
 -- the place becomes the first of the station, where it comes at the minute
 abbrev pub with_arrival : {A : Type 0} → Arrivals A → (station minute x : ℕ) → Arrivals A
@@ -56,32 +56,32 @@ abbrev pub behind : Option ℕ → ℕ
 behind None = zero
 behind (Some x) = suc x
 
-module _ {A : Type 0} (stops : List StopRow) (label : Shift → ℕ → Option (Label A)) where
+module _ {P A : Type 0} (inquiry : Inquiry P) (label : Shift → ℕ → Option (Label A)) where
   -- the place has a label of the station
   pub record ArrivesAt (station x : ℕ) : Type 0 where
     pub shift : Shift
     pub row : ℕ
-    pub inside : row < length stops
-    pub is : x ≡ place (length stops) shift row
-    pub here : (stop_at stops row).station ≡ station
+    pub inside : row < size_of inquiry
+    pub is : x ≡ place (size_of inquiry) shift row
+    pub here : (stop_in inquiry row).station ≡ station
     pub labelled : is_some (label shift row) ≡ true
 
   -- b is the last place ahead of a with a label of the station, or none is there
   pub record Link (station a : ℕ) (b : Option ℕ) : Type 0 where
     pub ahead : behind b ≤ a
-    pub passed_over : (s : Shift) (row : ℕ) → row < length stops → behind b ≤ place (length stops) s row → place (length stops) s row < a → (stop_at stops row).station ≡ station → label s row ≡ None
+    pub passed_over : (s : Shift) (row : ℕ) → row < size_of inquiry → behind b ≤ place (size_of inquiry) s row → place (size_of inquiry) s row < a → (stop_in inquiry row).station ≡ station → label s row ≡ None
     pub arrives : IfSome b (ArrivesAt station)
 
   -- the chains of the places ahead of a
   pub record Chained (a : ℕ) (arrivals : Arrivals A) : Type 0 where
-    pub long_heads : length arrivals.heads ≡ 1024
-    pub long_nexts : length arrivals.nexts ≡ 12288
-    pub long_minutes : length arrivals.minutes ≡ 12288
-    pub long_earliest : length arrivals.earliest ≡ 1024
+    pub long_heads : length arrivals.heads ≡ stations
+    pub long_nexts : length arrivals.nexts ≡ most_places
+    pub long_minutes : length arrivals.minutes ≡ most_places
+    pub long_earliest : length arrivals.earliest ≡ stations
     pub first : (station : ℕ) → station ≤ last_station → Link station a (slice_index_or arrivals.heads station None)
     pub next : (station x : ℕ) → x < a → ArrivesAt station x → Link station x (slice_index_or arrivals.nexts x None)
-    pub minute : (station x : ℕ) → x < a → (w : ArrivesAt station x) → slice_index_or arrivals.minutes x 0 ≡ comes (stop_at stops w.row) w.shift
-    pub not_before : (station x : ℕ) → x < a → (w : ArrivesAt station x) → slice_index_or arrivals.earliest station never ≤ comes (stop_at stops w.row) w.shift
+    pub minute : (station x : ℕ) → x < a → (w : ArrivesAt station x) → slice_index_or arrivals.minutes x 0 ≡ comes inquiry.query.now (stop_in inquiry w.row) w.shift
+    pub not_before : (station x : ℕ) → x < a → (w : ArrivesAt station x) → slice_index_or arrivals.earliest station never ≤ comes inquiry.query.now (stop_in inquiry w.row) w.shift
 
 -- ---- which runs can be boarded
 -- the minute from which on one is at the station after so many changes: at the start at the origin, later where somebody has come
@@ -96,26 +96,40 @@ missed_at arrivals k q stop = there_from arrivals k q stop.station - departure s
 
 -- one may board the run of that shift at the stop, and is there by the time that it leaves
 abbrev pub may_be_caught : {A : Type 0} → Arrivals A → (k : ℕ) → Query → StopRow → Shift → Bool
-may_be_caught arrivals k q stop s = may_board stop && nat_le (missed_at arrivals k q stop) (midnight s)
+may_be_caught arrivals k q stop s = may_board stop && nat_le (missed_at arrivals k q stop) (midnight q s)
 
-module _ {A : Type 0} (rows : List TrainRow) (stops : List StopRow) (k : ℕ) (q : Query) (arrivals : Arrivals A) (n : ℕ) (s : Shift) where
+module _ {P A : Type 0} (inquiry : Inquiry P) (k : ℕ) (arrivals : Arrivals A) (n : ℕ) (s : Shift) where
   abbrev caught : ℕ → Bool
-  caught i = may_be_caught arrivals k q (stop_at stops ((train_row n rows).first + i)) s
+  caught i = may_be_caught arrivals k inquiry.query.now (stop_in inquiry ((train_row n inquiry.trains.now).first + i)) s
 
   -- the run can be caught at none of its stops
   abbrev pub OutOfReach : Type 0
-  OutOfReach = (i : ℕ) → i < (train_row n rows).count → caught i ≡ false
+  OutOfReach = (i : ℕ) → i < (train_row n inquiry.trains.now).count → caught i ≡ false
 
   -- it can be caught at one of them
   abbrev pub WithinReach : Type 0
-  WithinReach = (i : ℕ) × (i < (train_row n rows).count) × (caught i ≡ true)
+  WithinReach = (i : ℕ) × (i < (train_row n inquiry.trains.now).count) × (caught i ≡ true)
 
-module _ {A : Type 0} (m : Meaning A) where
+-- for each train by how many minutes its run of the day before is missed: a run of a later shift leaves that much later, and is out of
+-- reach where this does not make up for it
+abbrev pub TellsMissed : {P A : Type 0} → Inquiry P → ℕ → Arrivals A → List ℕ → Shift → Type 0
+TellsMissed inquiry k arrivals missed s =
+    (n : ℕ) → n < length inquiry.trains.now → midnight inquiry.query.now s < slice_index_or missed n 0 → OutOfReach inquiry k arrivals n s
+
+module _ {P A : Type 0} (m : Meaning A) (inquiry : Inquiry P) (table : List (WorkRecord A)) where
   -- the labels of the layer k of which something can come, where a connection is known at that total
-  abbrev pub promising : ℕ → Option A → List (WorkRecord A) → ℕ → Shift → ℕ → Option (Label A)
-  promising size known table k s row = if_promising m known (label_in size table k s row)
+  abbrev pub promising : Option A → ℕ → Shift → ℕ → Option (Label A)
+  promising known k s row = if_promising m known (label_in (size_of inquiry) table k s row)
+
+  -- those that were promising when the arrivals were taken
+  abbrev pub taken : ℕ → Arrivals A → Shift → ℕ → Option (Label A)
+  taken k arrivals = promising (known_total arrivals.known) k
+
+  -- they are chained, all of the layer k
+  abbrev pub ChainedLayer : ℕ → Arrivals A → Type 0
+  ChainedLayer k arrivals = Chained inquiry (taken k arrivals) (layer_size (size_of inquiry)) arrivals
 
   -- the chains of the layer before the layer k, if there is one, by an end that is no cheaper than the one known now
-  pub record LinkedBefore (stops : List StopRow) (table : List (WorkRecord A)) (k : ℕ) (arrivals : Arrivals A) (end : Option (End A)) : Type 0 where
-    pub chained : 0 < k → Chained stops (promising (length stops) (known_total arrivals.known) table (k - 1)) (3 * length stops) arrivals
+  pub record LinkedBefore (k : ℕ) (arrivals : Arrivals A) (end : Option (End A)) : Type 0 where
+    pub chained : 0 < k → ChainedLayer (k - 1) arrivals
     pub no_dearer : NoDearer m arrivals.known end

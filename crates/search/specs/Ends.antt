@@ -1,15 +1,16 @@
 -- The labels at the destination.
-use Rattle.std.specs.Prelude.{◌≡◌, ℕ, ◌+◌, ◌<◌, Bool, true, false, ◌&&◌, T, List, length, Some, None, Option, ◌==◌}
+use Rattle.std.specs.Prelude.{◌≡◌, ℕ, ◌+◌, ◌<◌, Bool, true, false, ◌&&◌, T, List, Some, None, Option, ◌==◌}
 use Rattle.tariff.specs.Meaning.{Meaning}
-use Rattle.book.specs.Rules.{stop_at}
 use Rattle.book.specs.declared.rows.StopRow.{StopRow}
+use Rattle.connection.specs.Choosing.{cheaper}
 use Rattle.connection.specs.Rides.{may_alight}
 use Rattle.connection.specs.Settled.{Hopeless}
 use Rattle.connection.specs.Ways.{Best}
 use Rattle.connection.specs.declared.label.Label.{Label}
 use Rattle.connection.specs.declared.ride.Shift.{Shift}
-use Rattle.search.specs.Working.{costs_at_most, place, layer_at, label_in}
+use Rattle.search.specs.Working.{costs_at_most, size_of, stop_in, place, layer_at, label_in}
 use Rattle.search.specs.declared.ends.End.{End}
+use Rattle.search.specs.declared.inquiry.Inquiry.{Inquiry}
 use Rattle.search.specs.declared.record.WorkRecord.{WorkRecord}
 
 -- one may alight at the destination
@@ -36,22 +37,25 @@ module _ {A : Type 0} where
   end_here true k x None = None
   end_here false k x o = None
 
-  module _ (stops : List StopRow) (table : List (WorkRecord A)) (destination reach : ℕ) where
-    -- one may alight at the destination with the label that the end names, whose record is among the first of the table
-    pub record Ends (e : End A) : Type 0 where
-      pub shift : Shift
-      pub row : ℕ
-      pub label : Label A
-      pub ahead : layer_at (length stops) e.layer + e.place < reach
-      pub inside : row < length stops
-      pub off : T (is_end (stop_at stops row) destination)
-      pub held : label_in (length stops) table e.layer shift row ≡ Some label
-      pub total_is : e.total ≡ label.total
-      pub place_is : e.place ≡ place (length stops) shift row
+  -- the cheapest end that is known once the label at the stop is known too
+  abbrev pub with_end : {P : Type 0} → Meaning A → Inquiry P → Option (End A) → StopRow → ℕ → ℕ → Option (Label A) → Option (End A)
+  with_end m inquiry known stop k x o = cheaper (ends_no_dearer m) known (end_here (is_end stop inquiry.query.now.destination) k x o)
 
-    -- the end that is known is the cheapest of them
-    abbrev pub Known : Meaning A → Option (End A) → Type 0
-    Known m known = Best (ends_no_dearer m) Ends known
+  -- one may alight at the destination with the label that the end names, whose record is among the first `reach` of the table
+  pub record Ends {P : Type 0} (inquiry : Inquiry P) (table : List (WorkRecord A)) (reach : ℕ) (e : End A) : Type 0 where
+    pub shift : Shift
+    pub row : ℕ
+    pub label : Label A
+    pub ahead : layer_at (size_of inquiry) e.layer + e.place < reach
+    pub inside : row < size_of inquiry
+    pub off : T (is_end (stop_in inquiry row) inquiry.query.now.destination)
+    pub held : label_in (size_of inquiry) table e.layer shift row ≡ Some label
+    pub total_is : e.total ≡ label.total
+    pub place_is : e.place ≡ place (size_of inquiry) shift row
+
+  -- the end that is known is the cheapest of them
+  abbrev pub Known : {P : Type 0} → Meaning A → Inquiry P → List (WorkRecord A) → ℕ → Option (End A) → Type 0
+  Known m inquiry table reach known = Best (ends_no_dearer m) (Ends inquiry table reach) known
 
   -- what a known end made hopeless, the end that is known later makes hopeless
   abbrev pub NoDearer : Meaning A → Option (End A) → Option (End A) → Type 0

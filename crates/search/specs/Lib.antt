@@ -1,10 +1,12 @@
 pub mod Answers
+pub mod Boarding
 pub mod Chains
-pub mod Changing
 pub mod Ends
 pub mod Layers
+pub mod Limits
 pub mod Notes
 pub mod Records
 pub mod Refusals
+pub mod Rows
 pub mod Shifts
 pub mod Working

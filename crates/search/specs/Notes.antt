@@ -1,22 +1,16 @@
 -- Where labels are written. Nothing that is promised rests on these words.
-use Rattle.std.specs.Prelude.{◌≡◌, ℕ, zero, suc, ◌+◌, ◌*◌, ◌<◌, ◌≤◌, ◌/◌, true, false, cond, List, length, replicate, Some, None, Option, IfSome, slice_index_or, slice_set, nat_lt}
+use Rattle.std.specs.Prelude.{◌≡◌, ℕ, zero, suc, ◌+◌, ◌<◌, ◌≤◌, ◌/◌, true, false, cond, List, length, replicate, Some, None, Option, IfSome, slice_index_or, slice_set, nat_lt}
 use Rattle.tariff.specs.Meaning.{Meaning}
 use Rattle.connection.specs.declared.label.Label.{Label}
+use Rattle.search.specs.Limits.{layer_size, most_places, block, blocks}
 use Rattle.search.specs.Records.{blank}
 use Rattle.search.specs.Working.{layer_at, label_at, costs_no_more, beaten}
 use Rattle.search.specs.declared.notes.Notes.{Notes}
 use Rattle.search.specs.declared.record.WorkRecord.{WorkRecord}
 
 -- ---- what is noted
--- how many records are one block, and how many blocks are in the longest table that is used
-abbrev pub block : ℕ
-block = 64
-
-abbrev pub blocks : ℕ
-blocks = 3072
-
 abbrev pub no_notes : Notes
-no_notes = record { places = replicate 12288 0; count = 0; touched = replicate blocks false; latest = replicate 12288 None }
+no_notes = record { places = replicate most_places 0; count = 0; touched = replicate blocks false; latest = replicate most_places None }
 
 -- the places of the next layer
 abbrev pub for_next_layer : Notes → Notes
@@ -50,7 +44,7 @@ up_to n x j = cond (nat_lt j n.count) (slice_index_or n.places j 0) x
 module _ {A : Type 0} where
   -- no other place of the layer k ahead of x has a label
   pub record Listed (size k x : ℕ) (table : List (WorkRecord A)) (n : Notes) : Type 0 where
-    pub long : length n.places ≡ 12288
+    pub long : length n.places ≡ most_places
     pub few : n.count ≤ x
     pub inside : (j : ℕ) → j < n.count → slice_index_or n.places j 0 < x
     pub rising : (j : ℕ) → j ≤ n.count → past n j ≤ up_to n x j
@@ -74,9 +68,9 @@ module _ {A : Type 0} (m : Meaning A) (size : ℕ) (table : List (WorkRecord A))
 
   -- so does the one that is noted: the layer k counts ahead of x
   pub record LatestDecide (k x : ℕ) (n : Notes) : Type 0 where
-    pub long : length n.latest ≡ 12288
-    pub ahead : (z : ℕ) → z < x → z < 3 * size → Decides (suc k) z (slice_index_or n.latest z None)
-    pub behind : (z : ℕ) → x ≤ z → z < 3 * size → Decides k z (slice_index_or n.latest z None)
+    pub long : length n.latest ≡ most_places
+    pub ahead : (z : ℕ) → z < x → z < layer_size size → Decides (suc k) z (slice_index_or n.latest z None)
+    pub behind : (z : ℕ) → x ≤ z → z < layer_size size → Decides k z (slice_index_or n.latest z None)
 
   -- all that is noted
   pub record Noted (k x : ℕ) (n : Notes) : Type 0 where

@@ -6,17 +6,23 @@
 --     layer 1: | ..
 --
 -- The record holds the label of who is on board the run of that shift at that stop, after so many changes.
-use Rattle.std.specs.Prelude.{ℕ, zero, suc, ◌+◌, ◌*◌, ◌<◌, ◌≤◌, Bool, false, cond, ◌&&◌, ◌||◌, List, length, Some, None, Option, slice_index_or}
+use Rattle.std.specs.Prelude.{ℕ, zero, suc, ◌+◌, ◌*◌, ◌≤◌, Bool, false, cond, ◌&&◌, ◌||◌, List, length, Some, None, Option, slice_index_or}
 use Rattle.tariff.specs.Meaning.{Meaning}
 use Rattle.tariff.specs.declared.step.Step.{Step}
+use Rattle.book.specs.Rules.{stop_at}
+use Rattle.book.specs.Trains.{trains_in}
+use Rattle.book.specs.declared.rows.StopRow.{StopRow}
 use Rattle.book.specs.declared.rows.TrainRow.{TrainRow}
 use Rattle.calendar.specs.Pairs.{Pairs}
-use Rattle.connection.specs.Rides.{offers, does_run}
+use Rattle.connection.specs.Rides.{offers, does_run, leaves_at, reaches_at}
+use Rattle.connection.specs.Timetable.{Timetable, timetable_of}
 use Rattle.connection.specs.declared.label.Label.{Label}
 use Rattle.connection.specs.declared.query.Query.{Query}
 use Rattle.connection.specs.declared.ride.Shift.{Shift}
 use Rattle.connection.specs.declared.ride.Shift.TheVariants.{DayBefore, SameDay, DayAfter}
+use Rattle.search.specs.Limits.{layer_size}
 use Rattle.search.specs.Records.{blank, label_of}
+use Rattle.search.specs.declared.inquiry.Inquiry.{Inquiry}
 use Rattle.search.specs.declared.record.WorkRecord.{WorkRecord}
 
 -- the label with one step more
@@ -27,13 +33,24 @@ stepped m x l = record { total = m.add l.total x; board = l.board; from = l.from
 abbrev pub costs_at_most : {A L : Type 0} → Meaning A → (L → A) → L → L → Bool
 costs_at_most m total a b = m.at_most (total a) (total b)
 
--- ---- what may be used
--- the days around the query's can be asked for, and its minute is one of its day
-pub record Askable (q : Query) : Type 0 where
-  pub day_before : 0 < q.day
-  pub day_after : q.day < 65535
-  pub minute : q.minute ≤ 1439
-  pub changes : q.changes ≤ 15
+-- ---- what is worked on
+-- how many rows of the stop table are in use
+abbrev pub size_of : {P : Type 0} → Inquiry P → ℕ
+size_of inquiry = length inquiry.stops.now
+
+-- what is asked over: the trains of the rows in use, where the calendar says this
+abbrev pub asked_over : {P : Type 0} → Inquiry P → Pairs → Timetable
+asked_over inquiry runs = timetable_of (trains_in inquiry.trains.now inquiry.stops.now) runs
+
+-- the stop in the row, and when the run of that shift gets there and leaves
+abbrev pub stop_in : {P : Type 0} → Inquiry P → ℕ → StopRow
+stop_in inquiry row = stop_at inquiry.stops.now row
+
+abbrev pub row_reaches : {P : Type 0} → Inquiry P → Shift → ℕ → ℕ
+row_reaches inquiry s row = reaches_at inquiry.query.now s (stop_in inquiry row)
+
+abbrev pub row_leaves : {P : Type 0} → Inquiry P → Shift → ℕ → ℕ
+row_leaves inquiry s row = leaves_at inquiry.query.now s (stop_in inquiry row)
 
 -- the query may use the run of that shift of the train in that row
 abbrev pub may_use : Pairs → Query → TrainRow → Shift → Bool
@@ -51,7 +68,7 @@ place size s row = number s * size + row
 
 -- the layer k, and a part of it, in the table
 abbrev pub layer_at : ℕ → ℕ → ℕ
-layer_at size k = k * (3 * size)
+layer_at size k = k * layer_size size
 
 abbrev pub part_at : ℕ → ℕ → Shift → ℕ
 part_at size k s = layer_at size k + number s * size

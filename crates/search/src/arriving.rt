@@ -1,10 +1,9 @@
 // The labels of a layer as the arrivals ahead of the next.
-ghost use Rattle.std.specs.Prelude.{◌≡◌, ◌+◌, ◌*◌, ◌<◌, length};
-ghost use Rattle.book.specs.Rules.{stop_at};
-ghost use Rattle.search.specs.Chains.{Chained, comes, promising};
-ghost use Rattle.search.specs.Ends.{known_total};
+ghost use Rattle.std.specs.Prelude.{◌≡◌, ◌+◌, ◌<◌, length};
+ghost use Rattle.search.specs.Chains.{comes, ChainedLayer};
+ghost use Rattle.search.specs.Limits.{layer_size, most_places};
 ghost use Rattle.search.specs.Notes.{Listed};
-ghost use Rattle.search.specs.Working.{HasLayers};
+ghost use Rattle.search.specs.Working.{size_of, stop_in, HasLayers};
 
 use crate::chains::{Arrivals, NEVER};
 use crate::inquiry::Inquiry;
@@ -25,12 +24,12 @@ impl<P: Tariff> Inquiry<'_, P> {
         reached: &Reached<P::Total>,
         arrivals: &mut Arrivals<P::Total>,
     )
-        requires within { HasLayers (length self.now.stops.now) work.now (layer.number + 1) }
-        requires listed { Listed (length self.now.stops.now) layer.number (3 * length self.now.stops.now) work.now reached.now.notes }
-        requires long { length arrivals.old.nexts ≡ 12288 }
-        requires long_minutes { length arrivals.old.minutes ≡ 12288 }
+        requires within { HasLayers (size_of self.now) work.now (layer.number + 1) }
+        requires listed { Listed (size_of self.now) layer.number (layer_size (size_of self.now)) work.now reached.now.notes }
+        requires long { length arrivals.old.nexts ≡ most_places }
+        requires long_minutes { length arrivals.old.minutes ≡ most_places }
         ensures known { arrivals.new.known ≡ reached.now.end }
-        ensures chained { Chained self.now.stops.now (promising (P.Tariff.meaning self.now.tariff.now) (length self.now.stops.now) (known_total reached.now.end) work.now layer.number) (3 * length self.now.stops.now) arrivals.new }
+        ensures chained { ChainedLayer (P.Tariff.meaning self.now.tariff.now) self.now work.now layer.number arrivals.new }
     {
         arrivals.clear(reached.end);
         let at = self.layer_at(layer);
@@ -46,8 +45,8 @@ impl<P: Tariff> Inquiry<'_, P> {
 
     // The minute at which who is on board the run of that shift comes to the row, if one may alight there.
     fn comes(&self, row: usize, shift: Shift) -> u16
-        requires inside { row < length self.now.stops.now }
-        ensures { result ≡ comes (stop_at self.now.stops.now row) shift }
+        requires inside { row < size_of self.now }
+        ensures { result ≡ comes self.now.query.now (stop_in self.now row) shift }
     {
         if !may_alight(&self.stops[row]) {
             return NEVER;

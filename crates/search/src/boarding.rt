@@ -1,24 +1,13 @@
 // Boarding a run: at the origin, or after a change.
-ghost use Rattle.std.specs.Prelude.{◌≡◌, ◌+◌, ◌-◌, ◌*◌, ◌<◌, ◌≤◌, ◌&&◌, length, true, false, Option, Some, ◌==◌, nat_le};
-ghost use Rattle.tariff.specs.declared.step.Kind.TheVariants.{Start as AtStart};
+ghost use Rattle.std.specs.Prelude.{◌≡◌, ◌+◌, ◌-◌, ◌<◌, ◌≤◌, length, option_map};
 ghost use Rattle.book.specs.Answers.{train_row};
 ghost use Rattle.book.specs.Limits.{last_station};
-ghost use Rattle.book.specs.Rules.{stop_at};
-ghost use Rattle.book.specs.Trains.{trains_in};
-ghost use Rattle.calendar.specs.Pairs.{Pairs};
-ghost use Rattle.connection.specs.Choosing.{mapped, only_when, cheaper as cheaper_of};
-ghost use Rattle.connection.specs.Clock.{midnight, ready as ready_at};
-ghost use Rattle.connection.specs.Labels.{with};
-ghost use Rattle.connection.specs.Prices.{stretch};
-ghost use Rattle.connection.specs.Rides.{arrival, departure, may_alight, can_catch};
-ghost use Rattle.connection.specs.Settled.{no_dearer, SettlesBoarding};
-ghost use Rattle.connection.specs.Ways.{Best};
-ghost use Rattle.search.specs.Changing.{changed, both_and_no_dearer, Changes};
-ghost use Rattle.search.specs.Chains.{never, Chained, promising};
-ghost use Rattle.search.specs.Ends.{known_total, NoDearer};
-ghost use Rattle.search.specs.Layers.{Trail, Filled, RunAsked};
-ghost use Rattle.search.specs.Working.{HasLayers};
-ghost use Rattle.search.specs.declared.ends.End.{End};
+ghost use Rattle.connection.specs.Choosing.{cheaper as cheaper_of};
+ghost use Rattle.connection.specs.Settled.{no_dearer};
+ghost use Rattle.search.specs.Boarding.{changed, both_and_no_dearer, IsBestChange, label_at_start};
+ghost use Rattle.search.specs.Chains.{never, ChainedLayer};
+ghost use Rattle.search.specs.Layers.{SettlesWhoBoards};
+ghost use Rattle.search.specs.Working.{size_of, HasLayers};
 
 use crate::chains::Arrivals;
 use crate::choosing::cheaper;
@@ -44,11 +33,11 @@ impl<P: Tariff> Inquiry<'_, P> {
         run: Run,
         i: usize,
     ) -> Option<Label<P::Total>>
-        requires within { HasLayers (length self.now.stops.now) work.now layer.number }
-        requires linked { 0 < layer.number → Chained self.now.stops.now (promising (P.Tariff.meaning self.now.tariff.now) (length self.now.stops.now) (known_total arrivals.now.known) work.now (layer.number - 1)) (3 * length self.now.stops.now) arrivals.now }
+        requires within { HasLayers (size_of self.now) work.now layer.number }
+        requires linked { 0 < layer.number → ChainedLayer (P.Tariff.meaning self.now.tariff.now) self.now work.now (layer.number - 1) arrivals.now }
         requires in_force { run.train < length self.now.trains.now }
         requires on_the_train { i < (train_row run.train self.now.trains.now).count }
-        ensures settles { (runs : Pairs) (known : Option (End _)) → NoDearer (P.Tariff.meaning self.now.tariff.now) arrivals.now.known known → RunAsked self.now.query.now (train_row run.train self.now.trains.now) run.shift true runs → Filled (P.Tariff.meaning self.now.tariff.now) runs self.now.query.now self.now.trains.now self.now.stops.now (known_total known) work.now layer.number → SettlesBoarding (P.Tariff.meaning self.now.tariff.now) (trains_in self.now.trains.now self.now.stops.now) runs self.now.query.now (Trail self.now.trains.now (length self.now.stops.now) work.now layer.number) (known_total known) layer.number run.train run.shift i result }
+        ensures settles { SettlesWhoBoards (P.Tariff.meaning self.now.tariff.now) self.now work.now layer.number arrivals.now.known run.train run.shift i result }
     {
         let row = self.trains[run.train].first as usize + i;
         let stop = &self.stops[row];
@@ -70,8 +59,8 @@ impl<P: Tariff> Inquiry<'_, P> {
     // The label of who starts with the run of that shift at the row, if that is at the origin and the run does not leave
     // before the query's minute.
     fn start(&self, row: usize, shift: Shift, board: u8) -> Option<Label<P::Total>>
-        requires inside { row < length self.now.stops.now }
-        ensures { result ≡ only_when ((stop_at self.now.stops.now row).station == self.now.query.now.origin && nat_le (ready_at self.now.query.now) (departure (stop_at self.now.stops.now row) + midnight shift)) (Some (record { total = with (P.Tariff.meaning self.now.tariff.now) (P.Tariff.meaning self.now.tariff.now).empty (stretch AtStart (departure (stop_at self.now.stops.now row) + midnight shift - ready_at self.now.query.now) 0); board = board; from = 0 })) }
+        requires inside { row < size_of self.now }
+        ensures { result ≡ label_at_start (P.Tariff.meaning self.now.tariff.now) self.now shift row board }
     {
         let since = self.ready();
         let until = self.leaves(row, shift);
@@ -95,11 +84,11 @@ impl<P: Tariff> Inquiry<'_, P> {
         arrivals: &Arrivals<P::Total>,
         onward: Onward,
     ) -> Option<Label<P::Total>>
-        requires within { HasLayers (length self.now.stops.now) work.now (layer.number + 1) }
+        requires within { HasLayers (size_of self.now) work.now (layer.number + 1) }
         requires known { onward.station ≤ last_station }
         requires sometime { onward.minute < never }
-        requires linked { Chained self.now.stops.now (promising (P.Tariff.meaning self.now.tariff.now) (length self.now.stops.now) (known_total arrivals.now.known) work.now layer.number) (3 * length self.now.stops.now) arrivals.now }
-        ensures best { Best (no_dearer (P.Tariff.meaning self.now.tariff.now)) (Changes (P.Tariff.meaning self.now.tariff.now) self.now.stops.now (promising (P.Tariff.meaning self.now.tariff.now) (length self.now.stops.now) (known_total arrivals.now.known) work.now layer.number) onward.station onward.minute onward.board) result }
+        requires linked { ChainedLayer (P.Tariff.meaning self.now.tariff.now) self.now work.now layer.number arrivals.now }
+        ensures best { IsBestChange (P.Tariff.meaning self.now.tariff.now) self.now work.now layer.number arrivals.now onward result }
     {
         if onward.minute < arrivals.earliest[onward.station as usize] {
             return None;
@@ -129,7 +118,7 @@ impl<P: Tariff> Inquiry<'_, P> {
         from: u16,
         onward: Onward,
     ) -> Option<Label<P::Total>>
-        ensures { result ≡ cheaper_of (no_dearer (P.Tariff.meaning self.now.tariff.now)) best (mapped (changed (P.Tariff.meaning self.now.tariff.now) came onward.minute onward.board from) label) }
+        ensures { result ≡ cheaper_of (no_dearer (P.Tariff.meaning self.now.tariff.now)) best (option_map (changed (P.Tariff.meaning self.now.tariff.now) came from onward) label) }
     {
         if self.costs_at_most(best, label) {
             return best;
@@ -154,7 +143,7 @@ impl<P: Tariff> Inquiry<'_, P> {
         from: u16,
         onward: Onward,
     ) -> Option<Label<P::Total>>
-        ensures { result ≡ mapped (changed (P.Tariff.meaning self.now.tariff.now) came onward.minute onward.board from) label }
+        ensures { result ≡ option_map (changed (P.Tariff.meaning self.now.tariff.now) came from onward) label }
     {
         let step = wait(Kind::Change, came, onward.minute);
         label.map(|before| Label {

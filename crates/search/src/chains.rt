@@ -9,8 +9,10 @@
 ghost use Rattle.std.specs.Prelude.{◌≡◌, ◌<◌, ◌≤◌};
 ghost use Rattle.book.specs.Limits.{last_station};
 ghost use Rattle.search.specs.Chains.{no_arrivals, cleared, with_arrival};
+ghost use Rattle.search.specs.Limits.{most_places};
 
 use crate::ends::End;
+use crate::limits::{MOST_PLACES, STATIONS};
 
 // No minute: nobody comes, or may alight.
 pub const NEVER: u16 = u16::MAX;
@@ -18,10 +20,10 @@ pub const NEVER: u16 = u16::MAX;
 // In arrays and by the number of a place, since the search allocates nothing.
 #[derive(Drop)]
 pub struct Arrivals<T> {
-    pub heads: [Option<u16>; 1024],
-    pub nexts: [Option<u16>; 12288],
-    pub minutes: [u16; 12288],
-    pub earliest: [u16; 1024],
+    pub heads: [Option<u16>; STATIONS],
+    pub nexts: [Option<u16>; MOST_PLACES],
+    pub minutes: [u16; MOST_PLACES],
+    pub earliest: [u16; STATIONS],
     // the cheapest end that was known when they were taken: a label that costs as much was left out
     pub known: Option<End<T>>,
 }
@@ -32,10 +34,10 @@ impl<T: Copy> Arrivals<T> {
         ensures { result ≡ no_arrivals }
     {
         Arrivals {
-            heads: [None; 1024],
-            nexts: [None; 12288],
-            minutes: [0; 12288],
-            earliest: [NEVER; 1024],
+            heads: [None; STATIONS],
+            nexts: [None; MOST_PLACES],
+            minutes: [0; MOST_PLACES],
+            earliest: [NEVER; STATIONS],
             known: None,
         }
     }
@@ -43,7 +45,7 @@ impl<T: Copy> Arrivals<T> {
     // Takes the place, behind all that were taken, as one with a label of the station, where it comes at the minute.
     pub fn add(&mut self, station: u16, minute: u16, place: usize)
         requires known { station ≤ last_station }
-        requires placed { place < 12288 }
+        requires placed { place < most_places }
         ensures { self.new ≡ with_arrival self.old station minute place }
     {
         let station = station as usize;
@@ -58,7 +60,7 @@ impl<T: Copy> Arrivals<T> {
         ensures { self.new ≡ cleared self.old known }
     {
         self.known = known;
-        self.heads = [None; 1024];
-        self.earliest = [NEVER; 1024];
+        self.heads = [None; STATIONS];
+        self.earliest = [NEVER; STATIONS];
     }
 }

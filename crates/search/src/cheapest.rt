@@ -1,15 +1,16 @@
 // The cheapest connection over rows that hold a book.
-ghost use Rattle.std.specs.Prelude.{◌≡◌, ◌+◌, ◌≤◌, length, replicate};
-ghost use Rattle.book.specs.Trains.{trains_in};
+ghost use Rattle.std.specs.Prelude.{◌≡◌, ◌≤◌, length, replicate};
 ghost use Rattle.search.specs.Answers.{FoundOrNone, rides_left};
 ghost use Rattle.search.specs.Layers.{BlankFrom};
+ghost use Rattle.search.specs.Limits.{most_rides};
 ghost use Rattle.search.specs.Notes.{BlankElsewhere};
 ghost use Rattle.search.specs.Records.{blank};
-ghost use Rattle.search.specs.Working.{HasLayers};
+ghost use Rattle.search.specs.Working.{size_of, asked_over, HasLayers};
 
 use crate::inquiry::Inquiry;
 use crate::layer::Layer;
-use crate::notes::{BLOCK, Notes};
+use crate::limits::BLOCK;
+use crate::notes::Notes;
 use crate::reached::Reached;
 use crate::record::WorkRecord;
 use crate::refusal::Refusal;
@@ -26,10 +27,10 @@ impl<P: Tariff> Inquiry<'_, P> {
         rides: &mut [Ride],
         work: &mut [WorkRecord<P::Total>],
     ) -> Result<(P::Total, usize), Refusal>
-        requires space { self.now.query.now.changes + 1 ≤ length rides.old }
-        requires within { HasLayers (length self.now.stops.now) work.old (self.now.query.now.changes + 1) }
+        requires space { most_rides self.now.query.now ≤ length rides.old }
+        requires within { HasLayers (size_of self.now) work.old (most_rides self.now.query.now) }
         requires blank { BlankFrom 0 work.old }
-        ensures found { FoundOrNone (P.Tariff.meaning self.now.tariff.now) (C.Calendar.runs calendar.now) (trains_in self.now.trains.now self.now.stops.now) self.now.query.now result rides.new }
+        ensures found { FoundOrNone (P.Tariff.meaning self.now.tariff.now) (asked_over self.now (C.Calendar.runs calendar.now)) self.now.query.now result rides.new }
         ensures rides { rides.new ≡ rides_left result rides.old rides.new }
         ensures work { work.new ≡ replicate (length work.old) blank }
     {

@@ -1,6 +1,6 @@
 // The cheaper of two that have a total, and a label with a step more.
-ghost use Rattle.std.specs.Prelude.{◌≡◌};
-ghost use Rattle.connection.specs.Choosing.{mapped, cheaper};
+ghost use Rattle.std.specs.Prelude.{◌≡◌, option_map};
+ghost use Rattle.connection.specs.Choosing.{cheaper};
 ghost use Rattle.search.specs.Working.{costs_at_most, stepped};
 
 use connection::label::Label;
@@ -45,7 +45,7 @@ pub fn with_step<P: Tariff>(
     label: Option<Label<P::Total>>,
     step: Step,
 ) -> Option<Label<P::Total>>
-    ensures { result ≡ mapped (stepped (P.Tariff.meaning tariff.now) step) label }
+    ensures { result ≡ option_map (stepped (P.Tariff.meaning tariff.now) step) label }
 {
     label.map(|before| Label {
         total: tariff.add(before.total, step),

@@ -1,7 +1,6 @@
 // The labels at the destination, of which the cheapest is the answer.
 ghost use Rattle.std.specs.Prelude.{◌≡◌, Some};
-ghost use Rattle.connection.specs.Choosing.{cheaper as cheaper_of};
-ghost use Rattle.search.specs.Ends.{ends_no_dearer, is_end, end_here};
+ghost use Rattle.search.specs.Ends.{with_end};
 
 use crate::choosing::{Priced, cheaper};
 use crate::inquiry::Inquiry;
@@ -37,7 +36,7 @@ impl<P: Tariff> Inquiry<'_, P> {
         place: usize,
         label: Label<P::Total>,
     ) -> Option<End<P::Total>>
-        ensures { result ≡ cheaper_of (ends_no_dearer (P.Tariff.meaning self.now.tariff.now)) known (end_here (is_end stop.now self.now.query.now.destination) layer.number place (Some label)) }
+        ensures { result ≡ with_end (P.Tariff.meaning self.now.tariff.now) self.now known stop.now layer.number place (Some label) }
     {
         if stop.station != self.query.destination || !may_alight(stop) {
             return known;

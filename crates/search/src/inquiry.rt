@@ -3,9 +3,7 @@ ghost use Rattle.std.proofs.Props.{props};
 ghost use Rattle.std.specs.List.{AllByRecursion-prop};
 ghost use Rattle.book.specs.Trains.{Train, trains_in};
 ghost use Rattle.connection.specs.Whole.{KeepTheRules};
-ghost use Rattle.search.specs.Changing.{Timely};
-ghost use Rattle.search.specs.Layers.{InOrder};
-ghost use Rattle.search.specs.Working.{Askable};
+ghost use Rattle.search.specs.Rows.{Askable, InOrder, Timely};
 
 use book::rows::{StopRow, TrainRow};
 use connection::query::Query;

@@ -1,18 +1,16 @@
 // Judges a query ahead of looking for a connection.
-ghost use Rattle.std.specs.Prelude.{◌≡◌, ◌≤◌};
-ghost use Rattle.std.specs.Result.{result_err};
+ghost use Rattle.std.specs.Prelude.{◌≡◌, ◌^◌, ◌<◌, ◌≤◌};
+ghost use Rattle.book.specs.Answers.{ok_unless};
+ghost use Rattle.book.specs.Limits.{most_stops};
+ghost use Rattle.search.specs.Limits.{layer_size, most_rides, records_needed};
 ghost use Rattle.search.specs.Refusals.{bad_query, query_refusal};
 
+use crate::limits::{LAST_MINUTE_OF_DAY, MOST_CHANGES};
 use crate::refusal::Refusal;
 use book::limits::LAST_STATION;
+use book::reasons::first_of;
+use connection::clock::LAST_DAY;
 use connection::query::Query;
-
-// The last day that has a day after it.
-const LAST_DAY: u16 = 65534;
-
-const LAST_MINUTE_OF_DAY: u16 = 1439;
-
-const MOST_CHANGES: u8 = 15;
 
 fn is_bad(query: &Query) -> bool
     ensures { result ≡ bad_query query.now }
@@ -20,28 +18,44 @@ fn is_bad(query: &Query) -> bool
     query.origin > LAST_STATION
         || query.destination > LAST_STATION
         || query.day == 0
-        || query.day > LAST_DAY
+        || query.day >= LAST_DAY
         || query.minute > LAST_MINUTE_OF_DAY
         || query.changes > MOST_CHANGES
 }
 
+// How many rides a connection of the query may have.
+fn most_rides(query: &Query) -> usize
+    ensures is { result ≡ most_rides query.now }
+    ensures few { result ≤ 256 }
+{
+    query.changes as usize + 1
+}
+
+// How many records a layer has over so many stops in use.
+pub fn layer_size(stops: usize) -> usize
+    requires few { stops < 2 ^ 16 }
+    ensures { result ≡ layer_size stops }
+{
+    3 * stops
+}
+
+// How many records the query needs over so many stops in use.
+pub fn records_needed(query: &Query, stops: usize) -> usize
+    requires few { stops < 2 ^ 16 }
+    ensures { result ≡ records_needed stops query.now }
+{
+    layer_size(stops) * most_rides(query)
+}
+
 // Refuses the query that cannot be put to a book with so many stops in use, or that lacks room for its rides and records.
 pub fn judge(query: &Query, stops: usize, ride_room: usize, work_room: usize) -> Result<(), Refusal>
-    requires few { stops ≤ 4096 }
-    ensures { result_err result ≡ query_refusal query.now stops ride_room work_room }
+    requires few { stops ≤ most_stops }
+    ensures { result ≡ ok_unless (query_refusal query.now stops ride_room work_room) }
 {
-    if is_bad(query) {
-        return Err(Refusal::BadQuery);
-    }
-    if query.origin == query.destination {
-        return Err(Refusal::SameStation);
-    }
-    let most_rides = query.changes as usize + 1;
-    if ride_room < most_rides {
-        return Err(Refusal::ShortRides);
-    }
-    if work_room < 3 * stops * most_rides {
-        return Err(Refusal::ShortWork);
-    }
-    Ok(())
+    first_of(&[
+        (is_bad(query), Refusal::BadQuery),
+        (query.origin == query.destination, Refusal::SameStation),
+        (ride_room < most_rides(query), Refusal::ShortRides),
+        (work_room < records_needed(query, stops), Refusal::ShortWork),
+    ])
 }

@@ -1,11 +1,12 @@
 // A layer of the work table.
 ghost use Rattle.std.specs.Prelude.{◌≡◌, ◌+◌, ◌≤◌, MatchOption};
+ghost use Rattle.search.specs.Limits.{most_changes};
 
 // The labels after so many changes.
 #[derive(Clone, Copy)]
 pub struct Layer {
     pub number: usize,
-    ghost shallow: { number ≤ 15 },
+    ghost shallow: { number ≤ most_changes },
 }
 
 impl Layer {

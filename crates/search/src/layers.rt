@@ -1,10 +1,10 @@
 // The layers of labels, one for each number of changes.
-ghost use Rattle.std.specs.Prelude.{◌≡◌, ℕ, ◌+◌, ◌*◌, ◌<◌, ◌≤◌, length, slice_index_or};
-ghost use Rattle.connection.specs.Clock.{midnight};
-ghost use Rattle.search.specs.Chains.{LinkedBefore, OutOfReach};
-ghost use Rattle.search.specs.Layers.{nothing_reached, Fills, ShiftAsked, Asked, AllFilled, BlankFrom};
+ghost use Rattle.std.specs.Prelude.{◌≡◌, ◌+◌, ◌≤◌, length};
+ghost use Rattle.search.specs.Chains.{LinkedBefore, TellsMissed};
+ghost use Rattle.search.specs.Layers.{nothing_reached, FillsShift, FillsLayer, Asked, AllFilled, BlankFrom};
+ghost use Rattle.search.specs.Limits.{most_rides};
 ghost use Rattle.search.specs.Notes.{Noted};
-ghost use Rattle.search.specs.Working.{place, layer_at, HasLayers};
+ghost use Rattle.search.specs.Working.{size_of, place, layer_at, HasLayers};
 
 use crate::asking::Usable;
 use crate::chains::Arrivals;
@@ -13,6 +13,7 @@ use crate::layer::Layer;
 use crate::reached::Reached;
 use crate::record::WorkRecord;
 use crate::run::Run;
+use book::limits::MOST_TRAINS;
 use connection::ride::Shift;
 use tariff::Tariff;
 
@@ -27,10 +28,10 @@ impl<P: Tariff> Inquiry<'_, P> {
         usable: &Usable,
         reached: &mut Reached<P::Total>,
     )
-        requires within { HasLayers (length self.now.stops.now) work.old (self.now.query.now.changes + 1) }
+        requires within { HasLayers (size_of self.now) work.old (most_rides self.now.query.now) }
         requires blank { BlankFrom 0 work.old }
         requires nothing { reached.old ≡ nothing_reached }
-        ensures filled { AllFilled (P.Tariff.meaning self.now.tariff.now) self.now.query.now self.now.trains.now self.now.stops.now (Asked self.now.query.now self.now.trains.now usable.now) work.new reached.new }
+        ensures filled { AllFilled (P.Tariff.meaning self.now.tariff.now) self.now (Asked self.now usable.now) work.new reached.new }
     {
         let mut arrivals = Arrivals::none();
         for number in 0..self.query.changes as usize + 1 {
@@ -52,15 +53,15 @@ impl<P: Tariff> Inquiry<'_, P> {
         usable: &Usable,
         reached: &mut Reached<P::Total>,
     ) -> bool
-        requires within { HasLayers (length self.now.stops.now) work.old (layer.number + 1) }
-        requires linked { LinkedBefore (P.Tariff.meaning self.now.tariff.now) self.now.stops.now work.old layer.number arrivals.now reached.old.end }
-        requires blank { BlankFrom (layer_at (length self.now.stops.now) layer.number) work.old }
-        requires noted { Noted (P.Tariff.meaning self.now.tariff.now) (length self.now.stops.now) work.old layer.number 0 reached.old.notes }
-        ensures { Fills (P.Tariff.meaning self.now.tariff.now) self.now.query.now self.now.trains.now self.now.stops.now layer.number (Asked self.now.query.now self.now.trains.now usable.now) work.old work.new 0 (3 * length self.now.stops.now) result reached.old reached.new }
+        requires within { HasLayers (size_of self.now) work.old (layer.number + 1) }
+        requires linked { LinkedBefore (P.Tariff.meaning self.now.tariff.now) self.now work.old layer.number arrivals.now reached.old.end }
+        requires blank { BlankFrom (layer_at (size_of self.now) layer.number) work.old }
+        requires noted { Noted (P.Tariff.meaning self.now.tariff.now) (size_of self.now) work.old layer.number 0 reached.old.notes }
+        ensures { FillsLayer (P.Tariff.meaning self.now.tariff.now) self.now layer.number usable.now work.old work.new result reached.old reached.new }
     {
         let missed_by = self.missed_by(layer, arrivals);
         let mut found = false;
-        for shift in Shift::ALL {
+        for shift in Shift::all() {
             let usable = usable.on(shift);
             found |= self.fill_shift(work, layer, arrivals, usable, &missed_by, shift, reached);
         }
@@ -74,21 +75,21 @@ impl<P: Tariff> Inquiry<'_, P> {
         layer: Layer,
         arrivals: &Arrivals<P::Total>,
         usable: &[bool],
-        missed_by: &[u16; 512],
+        missed_by: &[u16; MOST_TRAINS as usize],
         shift: Shift,
         reached: &mut Reached<P::Total>,
     ) -> bool
-        requires within { HasLayers (length self.now.stops.now) work.old (layer.number + 1) }
-        requires linked { LinkedBefore (P.Tariff.meaning self.now.tariff.now) self.now.stops.now work.old layer.number arrivals.now reached.old.end }
+        requires within { HasLayers (size_of self.now) work.old (layer.number + 1) }
+        requires linked { LinkedBefore (P.Tariff.meaning self.now.tariff.now) self.now work.old layer.number arrivals.now reached.old.end }
         requires each { length self.now.trains.now ≤ length usable.now }
-        requires out_of_reach { (n : ℕ) → n < length self.now.trains.now → midnight shift < slice_index_or missed_by.now n 0 → OutOfReach self.now.trains.now self.now.stops.now layer.number self.now.query.now arrivals.now n shift }
-        requires blank { BlankFrom (layer_at (length self.now.stops.now) layer.number + place (length self.now.stops.now) shift 0) work.old }
-        requires noted { Noted (P.Tariff.meaning self.now.tariff.now) (length self.now.stops.now) work.old layer.number (place (length self.now.stops.now) shift 0) reached.old.notes }
-        ensures { Fills (P.Tariff.meaning self.now.tariff.now) self.now.query.now self.now.trains.now self.now.stops.now layer.number (ShiftAsked self.now.query.now self.now.trains.now shift usable.now) work.old work.new (place (length self.now.stops.now) shift 0) (place (length self.now.stops.now) shift (length self.now.stops.now)) result reached.old reached.new }
+        requires out_of_reach { TellsMissed self.now layer.number arrivals.now missed_by.now shift }
+        requires blank { BlankFrom (layer_at (size_of self.now) layer.number + place (size_of self.now) shift 0) work.old }
+        requires noted { Noted (P.Tariff.meaning self.now.tariff.now) (size_of self.now) work.old layer.number (place (size_of self.now) shift 0) reached.old.notes }
+        ensures { FillsShift (P.Tariff.meaning self.now.tariff.now) self.now layer.number shift usable.now work.old work.new result reached.old reached.new }
     {
         let mut found = false;
         for (train, usable) in usable[..self.trains.len()].iter().enumerate() {
-            if missed_by[train] <= shift.midnight() && *usable {
+            if missed_by[train] <= self.query.midnight(shift) && *usable {
                 let run = Run { train, shift };
                 found |= self.fill_run(work, layer, arrivals, run, reached);
             }

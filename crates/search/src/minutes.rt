@@ -1,9 +1,9 @@
 // When a run is at a stop, and the steps that a traveller makes there.
-ghost use Rattle.std.specs.Prelude.{◌≡◌, ◌+◌, ◌-◌, ◌<◌, length};
-ghost use Rattle.book.specs.Rules.{stop_at};
-ghost use Rattle.connection.specs.Clock.{midnight, ready};
+ghost use Rattle.std.specs.Prelude.{◌≡◌, ◌-◌, ◌<◌};
+ghost use Rattle.connection.specs.Clock.{ready};
 ghost use Rattle.connection.specs.Prices.{stretch, hop, stand, as_step};
 ghost use Rattle.connection.specs.Rides.{arrival, departure, fare_on};
+ghost use Rattle.search.specs.Working.{size_of, row_reaches, row_leaves};
 
 use crate::inquiry::Inquiry;
 use book::rows::StopRow;
@@ -32,25 +32,25 @@ fn fare_on(stop: &StopRow) -> u16
 impl<P> Inquiry<'_, P> {
     // The minute at which the run of that shift gets to the stop in the row.
     pub fn reaches(&self, row: usize, shift: Shift) -> u16
-        requires inside { row < length self.now.stops.now }
-        ensures { result ≡ arrival (stop_at self.now.stops.now row) + midnight shift }
+        requires inside { row < size_of self.now }
+        ensures { result ≡ row_reaches self.now shift row }
     {
-        arrival(&self.stops[row]) + shift.midnight()
+        arrival(&self.stops[row]) + self.query.midnight(shift)
     }
 
     // The minute at which it leaves that stop.
     pub fn leaves(&self, row: usize, shift: Shift) -> u16
-        requires inside { row < length self.now.stops.now }
-        ensures { result ≡ departure (stop_at self.now.stops.now row) + midnight shift }
+        requires inside { row < size_of self.now }
+        ensures { result ≡ row_leaves self.now shift row }
     {
-        departure(&self.stops[row]) + shift.midnight()
+        departure(&self.stops[row]) + self.query.midnight(shift)
     }
 
     // The minute from which the traveller waits at the origin.
     pub fn ready(&self) -> u16
         ensures { result ≡ ready self.now.query.now }
     {
-        self.query.minute + Shift::SameDay.midnight()
+        self.query.minute + self.query.midnight(Shift::SameDay)
     }
 }
 

@@ -4,19 +4,18 @@
 //     touched: block 0, ..        the blocks of the table in which one is written
 //     latest: place 4 -> layer 1, ..    the last layer with a label at the place, which is the cheapest one there
 ghost use Rattle.std.specs.Prelude.{◌≡◌, ◌*◌, ◌<◌, ◌≤◌, length, take};
-ghost use Rattle.search.specs.Notes.{block, blocks, no_notes, for_next_layer, with_note};
+ghost use Rattle.search.specs.Limits.{most_places, block, blocks};
+ghost use Rattle.search.specs.Notes.{no_notes, for_next_layer, with_note};
 
 use crate::layer::Layer;
-
-// How many records are one block.
-pub const BLOCK: usize = 64;
+use crate::limits::{BLOCK, BLOCKS, MOST_PLACES};
 
 #[derive(Drop)]
 pub struct Notes {
-    pub places: [u16; 12288],
+    pub places: [u16; MOST_PLACES],
     pub count: usize,
-    pub touched: [bool; 3072],
-    pub latest: [Option<u8>; 12288],
+    pub touched: [bool; BLOCKS],
+    pub latest: [Option<u8>; MOST_PLACES],
 }
 
 impl Notes {
@@ -25,10 +24,10 @@ impl Notes {
         ensures { result ≡ no_notes }
     {
         Notes {
-            places: [0; 12288],
+            places: [0; MOST_PLACES],
             count: 0,
-            touched: [false; 3072],
-            latest: [None; 12288],
+            touched: [false; BLOCKS],
+            latest: [None; MOST_PLACES],
         }
     }
 
@@ -42,8 +41,8 @@ impl Notes {
 
     // Notes that a label is written at the place of the layer, in that record of the table.
     pub fn add(&mut self, layer: Layer, place: usize, at: usize)
-        requires room { self.old.count < 12288 }
-        requires placed { place < 12288 }
+        requires room { self.old.count < most_places }
+        requires placed { place < most_places }
         requires inside { at < block * blocks }
         ensures { self.new ≡ with_note self.old layer.number place at }
     {

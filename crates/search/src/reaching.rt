@@ -1,14 +1,15 @@
 // Which runs can be boarded at all, so that the others are passed over.
 ghost use Rattle.std.specs.Prelude.{◌≡◌, ℕ, ◌<◌, ◌≤◌, length, slice_index_or};
-ghost use Rattle.book.specs.Limits.{last_station};
+ghost use Rattle.book.specs.Limits.{last_station, most_trains};
 ghost use Rattle.connection.specs.Clock.{midnight};
 ghost use Rattle.connection.specs.declared.ride.Shift.{Shift as AShift};
-ghost use Rattle.search.specs.Chains.{there_from, missed_at, may_be_caught, OutOfReach, WithinReach};
+ghost use Rattle.search.specs.Chains.{there_from, missed_at, may_be_caught, OutOfReach, WithinReach, TellsMissed};
 
 use crate::chains::{Arrivals, NEVER};
 use crate::inquiry::Inquiry;
 use crate::layer::Layer;
 use crate::minutes::departure;
+use book::limits::MOST_TRAINS;
 use book::rows::StopRow;
 use connection::allowed::may_board;
 use connection::ride::Shift;
@@ -17,12 +18,16 @@ use tariff::Tariff;
 impl<P: Tariff> Inquiry<'_, P> {
     // For each train by how many minutes its run of the day before is missed, after as many changes as the layer has. A run
     // of a later shift leaves that much later, and is boarded where this makes up for it.
-    pub fn missed_by(&self, layer: Layer, arrivals: &Arrivals<P::Total>) -> [u16; 512]
-        ensures out_of_reach { (n : ℕ) (s : AShift) → n < length self.now.trains.now → midnight s < slice_index_or result n 0 → OutOfReach self.now.trains.now self.now.stops.now layer.number self.now.query.now arrivals.now n s }
-        ensures within_reach { (n : ℕ) (s : AShift) → n < length self.now.trains.now → slice_index_or result n 0 ≤ midnight s → WithinReach self.now.trains.now self.now.stops.now layer.number self.now.query.now arrivals.now n s }
-        ensures each { length result ≡ 512 }
+    pub fn missed_by(
+        &self,
+        layer: Layer,
+        arrivals: &Arrivals<P::Total>,
+    ) -> [u16; MOST_TRAINS as usize]
+        ensures out_of_reach { (s : AShift) → TellsMissed self.now layer.number arrivals.now result s }
+        ensures within_reach { (n : ℕ) (s : AShift) → n < length self.now.trains.now → slice_index_or result n 0 ≤ midnight self.now.query.now s → WithinReach self.now layer.number arrivals.now n s }
+        ensures each { length result ≡ most_trains }
     {
-        let mut missed_by = [0; 512];
+        let mut missed_by = [0; MOST_TRAINS as usize];
         // by number: what is written through a zip with the trains is lost to the proof
         for n in 0..self.trains.len() {
             missed_by[n] = self.minutes_missed(layer, arrivals, n);
@@ -33,8 +38,8 @@ impl<P: Tariff> Inquiry<'_, P> {
     // How many that is for one train: the fewest of its stops.
     fn minutes_missed(&self, layer: Layer, arrivals: &Arrivals<P::Total>, train: usize) -> u16
         requires in_force { train < length self.now.trains.now }
-        ensures out_of_reach { (s : AShift) → midnight s < result → OutOfReach self.now.trains.now self.now.stops.now layer.number self.now.query.now arrivals.now train s }
-        ensures within_reach { (s : AShift) → result ≤ midnight s → WithinReach self.now.trains.now self.now.stops.now layer.number self.now.query.now arrivals.now train s }
+        ensures out_of_reach { (s : AShift) → midnight self.now.query.now s < result → OutOfReach self.now layer.number arrivals.now train s }
+        ensures within_reach { (s : AShift) → result ≤ midnight self.now.query.now s → WithinReach self.now layer.number arrivals.now train s }
     {
         let mut fewest = NEVER;
         for stop in self.trains[train].stops(self.stops) {
@@ -56,7 +61,7 @@ impl<P: Tariff> Inquiry<'_, P> {
         requires known { stop.now.station ≤ last_station }
         ensures { result ≡ may_be_caught arrivals.now layer.number self.now.query.now stop.now shift }
     {
-        may_board(stop) && self.missed_at(layer, arrivals, stop) <= shift.midnight()
+        may_board(stop) && self.missed_at(layer, arrivals, stop) <= self.query.midnight(shift)
     }
 
     // By how many minutes the run of the day before is missed at the stop.

@@ -1,20 +1,21 @@
 // Riding a run from stop to stop, and the labels of who is on board.
-ghost use Rattle.std.specs.Prelude.{◌≡◌, ◌+◌, ◌*◌, ◌<◌, ◌≤◌, true, length, None, slice_index_or, slice_set};
-ghost use Rattle.book.specs.Answers.{train_row};
-ghost use Rattle.connection.specs.Choosing.{mapped, cheaper as cheaper_of};
+ghost use Rattle.std.specs.Prelude.{◌≡◌, ◌+◌, ◌*◌, ◌<◌, ◌≤◌, true, length, None, option_map, slice_index_or, slice_set};
+ghost use Rattle.connection.specs.Choosing.{cheaper as cheaper_of};
 ghost use Rattle.connection.specs.Prices.{hop as hop_of, stand as stand_of};
 ghost use Rattle.connection.specs.Settled.{extended, no_dearer};
 ghost use Rattle.search.specs.Chains.{LinkedBefore};
-ghost use Rattle.search.specs.Ends.{ends_no_dearer, known_total, is_end, end_here};
-ghost use Rattle.search.specs.Layers.{Fills, RunAsked, BlankFrom, run_begins, run_ends};
+ghost use Rattle.search.specs.Ends.{known_total, with_end};
+ghost use Rattle.search.specs.Layers.{FillsRun, BlankFrom, run_begins};
+ghost use Rattle.search.specs.Limits.{layer_size, most_places};
 ghost use Rattle.search.specs.Notes.{Decides, Noted, noted};
 ghost use Rattle.search.specs.Records.{record_of};
-ghost use Rattle.search.specs.Working.{layer_at, label_at as label_of_record, costs_no_more, hopeless, beaten, if_promising, if_worth_following, HasLayers};
+ghost use Rattle.search.specs.Working.{size_of, layer_at, label_at as label_of_record, costs_no_more, hopeless, beaten, if_promising, if_worth_following, HasLayers};
 
 use crate::chains::Arrivals;
 use crate::choosing::{cheaper, with_step};
 use crate::ends::End;
 use crate::inquiry::Inquiry;
+use crate::judging::layer_size;
 use crate::layer::Layer;
 use crate::minutes::{hop, stand};
 use crate::reached::Reached;
@@ -36,12 +37,12 @@ impl<P: Tariff> Inquiry<'_, P> {
         run: Run,
         reached: &mut Reached<P::Total>,
     ) -> bool
-        requires within { HasLayers (length self.now.stops.now) work.old (layer.number + 1) }
-        requires linked { LinkedBefore (P.Tariff.meaning self.now.tariff.now) self.now.stops.now work.old layer.number arrivals.now reached.old.end }
+        requires within { HasLayers (size_of self.now) work.old (layer.number + 1) }
+        requires linked { LinkedBefore (P.Tariff.meaning self.now.tariff.now) self.now work.old layer.number arrivals.now reached.old.end }
         requires in_force { run.train < length self.now.trains.now }
-        requires noted { Noted (P.Tariff.meaning self.now.tariff.now) (length self.now.stops.now) work.old layer.number (run_begins self.now.trains.now (length self.now.stops.now) run.train run.shift) reached.old.notes }
-        requires blank { BlankFrom (layer_at (length self.now.stops.now) layer.number + run_begins self.now.trains.now (length self.now.stops.now) run.train run.shift) work.old }
-        ensures { Fills (P.Tariff.meaning self.now.tariff.now) self.now.query.now self.now.trains.now self.now.stops.now layer.number (RunAsked self.now.query.now (train_row run.train self.now.trains.now) run.shift true) work.old work.new (run_begins self.now.trains.now (length self.now.stops.now) run.train run.shift) (run_ends self.now.trains.now (length self.now.stops.now) run.train run.shift) result reached.old reached.new }
+        requires noted { Noted (P.Tariff.meaning self.now.tariff.now) (size_of self.now) work.old layer.number (run_begins self.now run.train run.shift) reached.old.notes }
+        requires blank { BlankFrom (layer_at (size_of self.now) layer.number + run_begins self.now run.train run.shift) work.old }
+        ensures { FillsRun (P.Tariff.meaning self.now.tariff.now) self.now layer.number run.train run.shift work.old work.new result reached.old reached.new }
     {
         let train = self.trains[run.train];
         let first = train.first as usize;
@@ -75,13 +76,13 @@ impl<P: Tariff> Inquiry<'_, P> {
         label: Option<Label<P::Total>>,
         reached: &mut Reached<P::Total>,
     )
-        requires within { HasLayers (length self.now.stops.now) work.old (layer.number + 1) }
-        requires placed { place < 3 * length self.now.stops.now }
+        requires within { HasLayers (size_of self.now) work.old (layer.number + 1) }
+        requires placed { place < layer_size (size_of self.now) }
         requires room { reached.old.notes.count ≤ place }
-        requires blank { BlankFrom (layer_at (length self.now.stops.now) layer.number + place) work.old }
-        ensures work { work.new ≡ slice_set work.old (layer_at (length self.now.stops.now) layer.number + place) (record_of label) }
-        ensures end { reached.new.end ≡ cheaper_of (ends_no_dearer (P.Tariff.meaning self.now.tariff.now)) reached.old.end (end_here (is_end stop.now self.now.query.now.destination) layer.number place label) }
-        ensures notes { reached.new.notes ≡ noted reached.old.notes layer.number place (layer_at (length self.now.stops.now) layer.number + place) label }
+        requires blank { BlankFrom (layer_at (size_of self.now) layer.number + place) work.old }
+        ensures work { work.new ≡ slice_set work.old (layer_at (size_of self.now) layer.number + place) (record_of label) }
+        ensures end { reached.new.end ≡ with_end (P.Tariff.meaning self.now.tariff.now) self.now reached.old.end stop.now layer.number place label }
+        ensures notes { reached.new.notes ≡ noted reached.old.notes layer.number place (layer_at (size_of self.now) layer.number + place) label }
     {
         if let Some(label) = label {
             let at = self.layer_at(layer) + place;
@@ -99,7 +100,7 @@ impl<P: Tariff> Inquiry<'_, P> {
         stop: &StopRow,
         next: &StopRow,
     ) -> Option<Label<P::Total>>
-        ensures { result ≡ mapped (extended (P.Tariff.meaning self.now.tariff.now) (hop_of stop.now next.now)) (cheaper_of (no_dearer (P.Tariff.meaning self.now.tariff.now)) boarded (mapped (extended (P.Tariff.meaning self.now.tariff.now) (stand_of stop.now)) aboard)) }
+        ensures { result ≡ option_map (extended (P.Tariff.meaning self.now.tariff.now) (hop_of stop.now next.now)) (cheaper_of (no_dearer (P.Tariff.meaning self.now.tariff.now)) boarded (option_map (extended (P.Tariff.meaning self.now.tariff.now) (stand_of stop.now)) aboard)) }
     {
         let stayed = with_step(self.tariff, aboard, stand(stop));
         with_step(
@@ -119,11 +120,11 @@ impl<P: Tariff> Inquiry<'_, P> {
         reached: &Reached<P::Total>,
         label: Option<Label<P::Total>>,
     ) -> Option<Label<P::Total>>
-        requires within { HasLayers (length self.now.stops.now) work.now layer.number }
-        requires placed { place < 3 * length self.now.stops.now }
-        requires latest { Decides (P.Tariff.meaning self.now.tariff.now) (length self.now.stops.now) work.now layer.number place (slice_index_or reached.now.notes.latest place None) }
-        requires long { length reached.now.notes.latest ≡ 12288 }
-        ensures { result ≡ if_worth_following (P.Tariff.meaning self.now.tariff.now) (length self.now.stops.now) work.now place (known_total reached.now.end) layer.number label }
+        requires within { HasLayers (size_of self.now) work.now layer.number }
+        requires placed { place < layer_size (size_of self.now) }
+        requires latest { Decides (P.Tariff.meaning self.now.tariff.now) (size_of self.now) work.now layer.number place (slice_index_or reached.now.notes.latest place None) }
+        requires long { length reached.now.notes.latest ≡ most_places }
+        ensures { result ≡ if_worth_following (P.Tariff.meaning self.now.tariff.now) (size_of self.now) work.now place (known_total reached.now.end) layer.number label }
     {
         // no `filter`: nothing is known of what its closure answers by the labels of a table
         let new = label?;
@@ -167,10 +168,10 @@ impl<P: Tariff> Inquiry<'_, P> {
         latest: Option<u8>,
         total: P::Total,
     ) -> bool
-        requires within { HasLayers (length self.now.stops.now) work.now layer.number }
-        requires placed { place < 3 * length self.now.stops.now }
-        requires latest { Decides (P.Tariff.meaning self.now.tariff.now) (length self.now.stops.now) work.now layer.number place latest }
-        ensures { result ≡ beaten (P.Tariff.meaning self.now.tariff.now) (length self.now.stops.now) work.now place layer.number total }
+        requires within { HasLayers (size_of self.now) work.now layer.number }
+        requires placed { place < layer_size (size_of self.now) }
+        requires latest { Decides (P.Tariff.meaning self.now.tariff.now) (size_of self.now) work.now layer.number place latest }
+        ensures { result ≡ beaten (P.Tariff.meaning self.now.tariff.now) (size_of self.now) work.now place layer.number total }
     {
         let Some(before) = latest else {
             return false;
@@ -186,10 +187,10 @@ impl<P: Tariff> Inquiry<'_, P> {
         place: usize,
         total: P::Total,
     ) -> bool
-        requires within { layer_at (length self.now.stops.now) layer + place < length work.now }
-        ensures { result ≡ costs_no_more (P.Tariff.meaning self.now.tariff.now) (label_of_record work.now (layer_at (length self.now.stops.now) layer + place)) total }
+        requires within { layer_at (size_of self.now) layer + place < length work.now }
+        ensures { result ≡ costs_no_more (P.Tariff.meaning self.now.tariff.now) (label_of_record work.now (layer_at (size_of self.now) layer + place)) total }
     {
-        let label = label_at(work, layer * (3 * self.stops.len()) + place);
+        let label = label_at(work, layer * layer_size(self.stops.len()) + place);
         label.is_some_and(|l| self.tariff.at_most(l.total, total))
     }
 }

@@ -1,9 +1,11 @@
 // Where a record stands in the work table, and the label that it holds.
-ghost use Rattle.std.specs.Prelude.{◌≡◌, ◌+◌, ◌*◌, ◌<◌, ◌≤◌, length, Some, slice_set};
+ghost use Rattle.std.specs.Prelude.{◌≡◌, ◌<◌, ◌≤◌, length, Some, slice_set};
+ghost use Rattle.search.specs.Limits.{layer_size};
 ghost use Rattle.search.specs.Records.{record_of};
-ghost use Rattle.search.specs.Working.{number as number_of, place as place_of, layer_at, part_at, label_at};
+ghost use Rattle.search.specs.Working.{size_of, number as number_of, place as place_of, layer_at, part_at, label_at};
 
 use crate::inquiry::Inquiry;
+use crate::judging::layer_size;
 use crate::layer::Layer;
 use crate::record::WorkRecord;
 use connection::label::Label;
@@ -26,17 +28,17 @@ fn number(shift: Shift) -> usize
 impl<P> Inquiry<'_, P> {
     // The place in a layer of the row in the part for that shift.
     pub fn place(&self, shift: Shift, row: usize) -> usize
-        requires inside { row ≤ length self.now.stops.now }
-        ensures { result ≡ place_of (length self.now.stops.now) shift row }
+        requires inside { row ≤ size_of self.now }
+        ensures { result ≡ place_of (size_of self.now) shift row }
     {
         number(shift) * self.stops.len() + row
     }
 
     // Which part of a layer has the place, and the row of the stop table that it stands for.
     pub fn shift_and_row(&self, place: usize) -> (Shift, usize)
-        requires inside { place < 3 * length self.now.stops.now }
-        ensures is { place ≡ place_of (length self.now.stops.now) result.0 result.1 }
-        ensures inside { result.1 < length self.now.stops.now }
+        requires inside { place < layer_size (size_of self.now) }
+        ensures is { place ≡ place_of (size_of self.now) result.0 result.1 }
+        ensures inside { result.1 < size_of self.now }
     {
         let size = self.stops.len();
         if place < size {
@@ -50,14 +52,14 @@ impl<P> Inquiry<'_, P> {
 
     // Where the layer begins in the work table.
     pub fn layer_at(&self, layer: Layer) -> usize
-        ensures { result ≡ layer_at (length self.now.stops.now) layer.number }
+        ensures { result ≡ layer_at (size_of self.now) layer.number }
     {
-        layer.number * (3 * self.stops.len())
+        layer.number * layer_size(self.stops.len())
     }
 
     // Where its part for that shift begins.
     pub fn part_at(&self, layer: Layer, shift: Shift) -> usize
-        ensures { result ≡ part_at (length self.now.stops.now) layer.number shift }
+        ensures { result ≡ part_at (size_of self.now) layer.number shift }
     {
         self.layer_at(layer) + self.place(shift, 0)
     }

@@ -1,9 +1,10 @@
 // The rides that led to a label, told by the records from the last ride back.
-ghost use Rattle.std.specs.Prelude.{◌≡◌, ℕ, suc, ◌+◌, ◌*◌, ◌<◌, ◌≤◌, List, ◌++◌, length, drop};
+ghost use Rattle.std.specs.Prelude.{◌≡◌, ℕ, suc, ◌+◌, ◌<◌, ◌≤◌, List, ◌++◌, length, drop};
 ghost use Rattle.book.specs.Answers.{train_row};
 ghost use Rattle.connection.specs.declared.ride.Ride.{Ride as ARide};
 ghost use Rattle.search.specs.Layers.{Spot, Trail, row_of};
-ghost use Rattle.search.specs.Working.{HasLayers};
+ghost use Rattle.search.specs.Limits.{layer_size};
+ghost use Rattle.search.specs.Working.{size_of, HasLayers};
 
 use crate::inquiry::Inquiry;
 use crate::layer::Layer;
@@ -20,10 +21,10 @@ impl<P: Tariff> Inquiry<'_, P> {
         place: usize,
         rides: &mut [Ride],
     )
-        requires within { HasLayers (length self.now.stops.now) work.now (layer.number + 1) }
+        requires within { HasLayers (size_of self.now) work.now (layer.number + 1) }
         requires room { layer.number < length rides.old }
-        requires told { (whole : List ARide) × Trail self.now.trains.now (length self.now.stops.now) work.now (suc layer.number) place whole }
-        ensures written { (whole : List ARide) → Trail self.now.trains.now (length self.now.stops.now) work.now (suc layer.number) place whole → rides.new ≡ whole ++ drop (layer.number + 1) rides.old }
+        requires told { (whole : List ARide) × Trail self.now work.now (suc layer.number) place whole }
+        ensures written { (whole : List ARide) → Trail self.now work.now (suc layer.number) place whole → rides.new ≡ whole ++ drop (layer.number + 1) rides.old }
     {
         let last = work[self.layer_at(layer) + place];
         // Who did not start on this train changed to it from a place of the layer before.
@@ -35,8 +36,8 @@ impl<P: Tariff> Inquiry<'_, P> {
 
     // The ride that was boarded at the stop `board` of its train, and ends at the place of a layer.
     fn ride_to(&self, place: usize, board: u8) -> Ride
-        requires inside { place < 3 * length self.now.stops.now }
-        ensures ends { Spot self.now.trains.now (length self.now.stops.now) result.train result.shift result.alight place }
+        requires inside { place < layer_size (size_of self.now) }
+        ensures ends { Spot self.now result.train result.shift result.alight place }
         ensures boards { result.board ≡ board }
     {
         let (shift, row) = self.shift_and_row(place);
@@ -51,7 +52,7 @@ impl<P: Tariff> Inquiry<'_, P> {
 
     // Which train stops at the row, and which of its stops that is.
     fn train_and_stop(&self, row: usize) -> (u16, u8)
-        requires inside { row < length self.now.stops.now }
+        requires inside { row < size_of self.now }
         ensures listed { result.0 < length self.now.trains.now }
         ensures within { result.1 < (train_row result.0 self.now.trains.now).count }
         ensures is { row ≡ row_of self.now.trains.now result.0 result.1 }
@@ -63,7 +64,7 @@ impl<P: Tariff> Inquiry<'_, P> {
 
     // The trains lie one after another, so it is the last that does not begin behind the row.
     fn train_at(&self, row: usize) -> usize
-        requires inside { row < length self.now.stops.now }
+        requires inside { row < size_of self.now }
         ensures listed { result < length self.now.trains.now }
         ensures begun { (train_row result self.now.trains.now).first ≤ row }
         ensures not_over { row < (train_row result self.now.trains.now).first + (train_row result self.now.trains.now).count }

@@ -6,8 +6,8 @@ mod asking;
 #[cfg(test)]
 mod edges;
 #[cfg(test)]
-mod refusing;
+mod filled_book;
 #[cfg(test)]
-mod timetable;
+mod refusing;
 #[cfg(test)]
 mod travelling;

@@ -2,8 +2,9 @@ use Rattle.std.proofs.Common.{◌≡◌, ℕ, ◌+◌, ◌-◌, ◌≤◌, ◌/�
 use Rattle.std.proofs.lemmas.Bool.{cases_lt}
 use Rattle.std.proofs.lemmas.List.{get_or_past, length-take-le, length-drop}
 use borrow.Rule.Slice.PartMut.{put_mid}
-use Rattle.search.specs.Notes.{block, BlankElsewhere}
+use Rattle.search.specs.Notes.{BlankElsewhere}
 use Rattle.search.specs.Records.{blank}
+use Rattle.search.specs.Limits.{block}
 use Rattle.search.proofs.BlankRecords.{blanked, still_blank, part_blank}
 use Rattle.search.proofs.cheapest.blank_touched.Goals as goal
 use Rattle.search.proofs.cheapest.blank_touched.Goals.{then-touched, else-touched}

@@ -1,6 +1,7 @@
 use Rattle.std.proofs.Common.{◌≡◌, ℕ, ◌<◌, ◌/◌, get_or}
-use Rattle.search.specs.Notes.{block, blocks, BlankElsewhere}
+use Rattle.search.specs.Notes.{BlankElsewhere}
 use Rattle.search.specs.Records.{blank}
+use Rattle.search.specs.Limits.{block}
 use Rattle.search.proofs.cheapest.blank_touched.Given as goal
 
 -- the blocks ahead are blank, and those that are not touched

@@ -1,6 +1,8 @@
-use Rattle.std.proofs.Common.{◌+◌, length, replicate, None, refl, ap, ◌∙◌, arith}
+use Rattle.std.proofs.Common.{◌+◌, replicate, None, refl, ap, ◌∙◌, arith}
+use Rattle.search.specs.Limits.{most_rides}
 use Rattle.search.specs.Records.{blank}
-use Rattle.search.proofs.Basis.{Basis, timetable_of}
+use Rattle.search.specs.Working.{size_of}
+use Rattle.search.proofs.Basis.{Basis}
 use Rattle.search.proofs.CheapestEnd.{searched, nothing_found, whole, end_layer, whole_told, finds, rest_stands}
 use Rattle.search.proofs.Layering.{layers_below}
 use Rattle.search.proofs.inquiry.Inquiry.cheapest.Goals as goal
@@ -11,9 +13,9 @@ invariant_of-layer g c =
     let s = c.args.self.now in
     let t = s.tariff.now in
     let laws = g.met.P.Tariff in
-    let basis : Basis (g.P.Tariff.meaning t) s.trains.now s.stops.now = record { connex = laws.connex t; transitive = laws.transitive t; grows = laws.grows t; keeps = laws.keeps t; starts = laws.starts t; counts = laws.counts t; timetable = timetable_of s } in
+    let basis : Basis (g.P.Tariff.meaning t) = record { connex = laws.connex t; transitive = laws.transitive t; grows = laws.grows t; keeps = laws.keeps t; starts = laws.starts t; counts = laws.counts t } in
     let filled = c.fill_layers.ensures.filled in
-    let known = searched _ (g.C.Calendar.runs c.args.calendar.now) s.query.now s.trains.now s.stops.now _ _ _ basis filled c.usable-usable.ensures in
+    let known = searched _ s (g.C.Calendar.runs c.args.calendar.now) _ _ _ basis filled c.usable-usable.ensures in
     record { shallow = omega (arith, end_layer known c.in-Some.end c.in-Some.is, filled.few, s.askable.changes) }
 
 pub fill_layers-requires-clause-nothing : goal.fill_layers-requires-clause-nothing
@@ -24,13 +26,13 @@ write_rides-requires g c =
     let s = c.args.self.now in
     let t = s.tariff.now in
     let laws = g.met.P.Tariff in
-    let basis : Basis (g.P.Tariff.meaning t) s.trains.now s.stops.now = record { connex = laws.connex t; transitive = laws.transitive t; grows = laws.grows t; keeps = laws.keeps t; starts = laws.starts t; counts = laws.counts t; timetable = timetable_of s } in
+    let basis : Basis (g.P.Tariff.meaning t) = record { connex = laws.connex t; transitive = laws.transitive t; grows = laws.grows t; keeps = laws.keeps t; starts = laws.starts t; counts = laws.counts t } in
     let filled = c.fill_layers.ensures.filled in
-    let known = searched _ (g.C.Calendar.runs c.args.calendar.now) s.query.now s.trains.now s.stops.now _ _ _ basis filled c.usable-usable.ensures in
+    let known = searched _ s (g.C.Calendar.runs c.args.calendar.now) _ _ _ basis filled c.usable-usable.ensures in
     let e = c.in-Some.end in
     let it = c.in-Some.is in
     let deep = end_layer known e it in
-    let more = layers_below (length s.stops.now) (e.layer + 1) (s.query.now.changes + 1) (omega (arith, filled.few)) in
+    let more = layers_below (size_of s) (e.layer + 1) (most_rides s.query.now) (omega (arith, filled.few)) in
     record { within = omega (arith, more); room = omega (arith, filled.few); told = (whole known e it, whole_told known e it) }
 
 pub blank_touched-requires : goal.blank_touched-requires
@@ -42,9 +44,9 @@ returns g c =
     let s = a.self.now in
     let t = s.tariff.now in
     let laws = g.met.P.Tariff in
-    let basis : Basis (g.P.Tariff.meaning t) s.trains.now s.stops.now = record { connex = laws.connex t; transitive = laws.transitive t; grows = laws.grows t; keeps = laws.keeps t; starts = laws.starts t; counts = laws.counts t; timetable = timetable_of s } in
+    let basis : Basis (g.P.Tariff.meaning t) = record { connex = laws.connex t; transitive = laws.transitive t; grows = laws.grows t; keeps = laws.keeps t; starts = laws.starts t; counts = laws.counts t } in
     let filled = c.fill_layers.ensures.filled in
-    let known = searched _ (g.C.Calendar.runs a.calendar.now) s.query.now s.trains.now s.stops.now _ _ _ basis filled c.usable-usable.ensures in
+    let known = searched _ s (g.C.Calendar.runs a.calendar.now) _ _ _ basis filled c.usable-usable.ensures in
     let blanked = c.blank_touched.ensures ∙ ap (λ k. replicate k blank) c.fill_layers.auto.work in
     elim c.match-end.branch [
       | in-Some w ↦

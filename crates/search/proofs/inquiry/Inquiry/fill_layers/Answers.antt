@@ -1,10 +1,11 @@
-use Rattle.std.proofs.Common.{◌≡◌, ℕ, ◌+◌, ◌-◌, ◌*◌, length, None, Option, refl, sym, ap, ◌∙◌, subst, inl, inr, add-one, arith}
+use Rattle.std.proofs.Common.{◌≡◌, ℕ, ◌+◌, ◌-◌, length, None, Option, refl, sym, ap, ◌∙◌, subst, inl, inr, add-one, arith}
 use Rattle.std.proofs.lemmas.List.{length-replicate}
 use Rattle.connection.specs.Settled.{Hopeless}
-use Rattle.search.specs.Chains.{Chained, promising}
+use Rattle.search.specs.Chains.{ChainedLayer}
 use Rattle.search.specs.Ends.{known_total, Known}
+use Rattle.search.specs.Limits.{most_places, most_rides}
 use Rattle.search.specs.Notes.{Noted}
-use Rattle.search.specs.Working.{layer_at}
+use Rattle.search.specs.Working.{size_of, layer_at}
 use Rattle.search.specs.declared.chains.Arrivals.{Arrivals}
 use Rattle.search.specs.declared.ends.End.{End}
 use Rattle.search.specs.declared.reached.Reached.{Reached}
@@ -21,26 +22,26 @@ loop-number-init g c =
     let t = s.tariff.now in
     let laws = g.met.P.Tariff in
     record {
-      blank = blank_less 0 (layer_at (length s.stops.now) 0) c.args.work.now (omega arith) c.requires.blank;
-      known = subst (λ (r : Reached _). Known s.stops.now c.args.work.now s.query.now.destination (layer_at (length s.stops.now) 0) (g.P.Tariff.meaning t) r.end) (sym c.requires.nothing) (none_known (g.P.Tariff.meaning t) (laws.connex t) (laws.transitive t) s.stops.now c.args.work.now s.query.now.destination);
+      blank = blank_less 0 (layer_at (size_of s) 0) c.args.work.now (omega arith) c.requires.blank;
+      known = subst (λ (r : Reached _). Known (g.P.Tariff.meaning t) s c.args.work.now (layer_at (size_of s) 0) r.end) (sym c.requires.nothing) (none_known (g.P.Tariff.meaning t) (laws.connex t) (laws.transitive t) s c.args.work.now);
       filled = λ runs asked k n sh i lk ln li. absurd (omega arith);
       linked = record { chained = λ h. absurd (omega arith); no_dearer = λ total h. absurd (subst (λ (e : Option (End _)). Hopeless (g.P.Tariff.meaning t) (known_total e) total) (ap (λ (a : Arrivals _). a.known) c.none-arrivals.ensures) h) };
-      noted = subst (λ (r : Reached _). Noted (g.P.Tariff.meaning t) (length s.stops.now) c.args.work.now 0 0 r.notes) (sym c.requires.nothing) (noted_first (g.P.Tariff.meaning t) (length s.stops.now) c.args.work.now (omega (arith, s.ordered.few_stops)) c.requires.blank);
-      long = ap (λ (a : Arrivals _). length a.nexts) c.none-arrivals.ensures ∙ length-replicate {A = Option ℕ} 12288 None;
-      long_minutes = ap (λ (a : Arrivals _). length a.minutes) c.none-arrivals.ensures ∙ length-replicate {A = ℕ} 12288 0;
+      noted = subst (λ (r : Reached _). Noted (g.P.Tariff.meaning t) (size_of s) c.args.work.now 0 0 r.notes) (sym c.requires.nothing) (noted_first (g.P.Tariff.meaning t) (size_of s) c.args.work.now (omega (arith, s.ordered.few_stops)) c.requires.blank);
+      long = ap (λ (a : Arrivals _). length a.nexts) c.none-arrivals.ensures ∙ length-replicate {A = Option ℕ} most_places None;
+      long_minutes = ap (λ (a : Arrivals _). length a.minutes) c.none-arrivals.ensures ∙ length-replicate {A = ℕ} most_places 0;
     }
 
 pub fill_layer-requires-clause-within : goal.fill_layer-requires-clause-within
 fill_layer-requires-clause-within g c =
     let q = c.args.self.now.query.now in
     let l = c.loop-number in
-    omega (arith, layers_below (length c.args.self.now.stops.now) (l.number + 1) (q.changes + 1) (omega arith), c.requires.within)
+    omega (arith, layers_below (size_of c.args.self.now) (l.number + 1) (most_rides q) (omega arith), c.requires.within)
 
 pub arrive-requires-clause-within : goal.arrive-requires-clause-within
 arrive-requires-clause-within g c =
     let q = c.args.self.now.query.now in
     let l = c.loop-number in
-    omega (arith, layers_below (length c.args.self.now.stops.now) (l.number + 1) (q.changes + 1) (omega arith), c.requires.within, c.fill_layer.auto.work, l.auto.work)
+    omega (arith, layers_below (size_of c.args.self.now) (l.number + 1) (most_rides q) (omega arith), c.requires.within, c.fill_layer.auto.work, l.auto.work)
 
 pub arrive-requires-clause-listed : goal.arrive-requires-clause-listed
 arrive-requires-clause-listed g c = (c.fill_layer.ensures.noted c.loop-number.invariant.noted).listed
@@ -56,15 +57,15 @@ returns-then-not-fill_layer g c =
         few = omega arith;
         all = inr (l.number, add-one l.number, filled.nothing refl);
         elsewhere = (filled.noted l.invariant.noted).elsewhere;
-        known = known_layer s.ordered filled l.invariant.known;
-        filled = λ runs asked. filled_layer s.ordered filled runs asked (l.invariant.filled runs asked);
+        known = known_layer s filled l.invariant.known;
+        filled = λ runs asked. filled_layer s filled runs asked (l.invariant.filled runs asked);
       };
     }
 
 pub loop-number-preserved : goal.loop-number-preserved
 loop-number-preserved g c =
     let s = c.args.self.now in
-    let size = length s.stops.now in
+    let size = size_of s in
     let l = c.loop-number in
     let m = g.P.Tariff.meaning s.tariff.now in
     let work = c.fill_layer.new.work in
@@ -72,13 +73,12 @@ loop-number-preserved g c =
     let arrivals = c.arrive.new.arrivals in
     let next : l.number ≡ l.number + 1 - 1 = omega arith in
     let known = c.arrive.ensures.known in
-    let chained = subst (λ (e : Option (End _)). Chained s.stops.now (promising m size (known_total e) work l.number) (3 * size) arrivals) (sym known) c.arrive.ensures.chained in
     record {
-      blank = blank_layer s.ordered c.fill_layer.ensures l.invariant.blank;
-      known = known_layer s.ordered c.fill_layer.ensures l.invariant.known;
-      filled = λ runs asked. filled_layer s.ordered c.fill_layer.ensures runs asked (l.invariant.filled runs asked);
+      blank = blank_layer s c.fill_layer.ensures l.invariant.blank;
+      known = known_layer s c.fill_layer.ensures l.invariant.known;
+      filled = λ runs asked. filled_layer s c.fill_layer.ensures runs asked (l.invariant.filled runs asked);
       linked = record {
-        chained = λ h. subst (λ (k : ℕ). Chained s.stops.now (promising m size (known_total arrivals.known) work k) (3 * size) arrivals) next chained;
+        chained = λ h. subst (λ (k : ℕ). ChainedLayer m s work k arrivals) next c.arrive.ensures.chained;
         no_dearer = λ total h. subst (λ (e : Option (End _)). Hopeless m (known_total e) total) known h;
       };
       noted = subst (Noted m size work (l.number + 1) 0) (sym c.begin_layer.ensures) (noted_next m size l.number work c.fill_layer.new.reached.notes (c.fill_layer.ensures.noted l.invariant.noted));

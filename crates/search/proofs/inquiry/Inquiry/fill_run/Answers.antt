@@ -9,10 +9,11 @@ use Rattle.connection.specs.declared.label.Label.{Label}
 use Rattle.search.specs.Chains.{may_be_caught}
 use Rattle.search.specs.Ends.{ends_no_dearer, known_total, is_end, end_here}
 use Rattle.search.specs.Layers.{row_of}
-use Rattle.search.specs.Notes.{block, blocks, noted}
+use Rattle.search.specs.Notes.{noted}
 use Rattle.search.specs.Records.{record_of}
 use Rattle.search.specs.Working.{number, layer_at, part_at, if_worth_following}
-use Rattle.search.proofs.Basis.{Basis, timetable_of}
+use Rattle.search.specs.Limits.{block, blocks}
+use Rattle.search.proofs.Basis.{Basis}
 use Rattle.search.proofs.BlankRecords.{blank_less}
 use Rattle.search.proofs.Chaining.{not_some}
 use Rattle.search.proofs.FillingRuns.{FilledTo, filled_none, filled_more, filled_left, comes_next}
@@ -42,8 +43,8 @@ loop-i-init g c =
     let t = s.tariff.now in
     let laws = g.met.P.Tariff in
     let m = g.P.Tariff.meaning t in
-    let basis : Basis m s.trains.now s.stops.now = record { connex = laws.connex t; transitive = laws.transitive t; grows = laws.grows t; keeps = laws.keeps t; starts = laws.starts t; counts = laws.counts t; timetable = timetable_of s } in
-    filled_none m s.query.now s.trains.now s.stops.now a.layer.number a.run.train a.run.shift a.reached.now basis c.requires.in_force a.work.now c.requires.blank
+    let basis : Basis m = record { connex = laws.connex t; transitive = laws.transitive t; grows = laws.grows t; keeps = laws.keeps t; starts = laws.starts t; counts = laws.counts t } in
+    filled_none m s a.layer.number a.run.train a.run.shift a.reached.now basis c.requires.in_force a.work.now c.requires.blank
 
 pub boarding-boarded-requires-clause-linked : goal.boarding-boarded-requires-clause-linked
 boarding-boarded-requires-clause-linked g c later =
@@ -55,7 +56,7 @@ boarding-boarded-requires-clause-linked g c later =
     let next = c.keep.ensures.work ∙ ap (λ x. set l.work x (record_of c.if_worth_following-aboard.result)) at in
     let unchanged = unchanged_still (part_at (length s.stops.now) a.layer.number a.run.shift + row.first) l.i a.work.now l.work c.keep.new.work c.if_worth_following-aboard.result l.invariant.unchanged next in
     let end = a.reached.now.end in
-    (linked_same (g.P.Tariff.meaning s.tariff.now) s.stops.now a.layer.number a.work.now c.keep.new.work a.arrivals.now end end (λ z h. unchanged z (omega arith)) (λ t h. h) c.requires.linked).chained later
+    (linked_same (g.P.Tariff.meaning s.tariff.now) s a.layer.number a.work.now c.keep.new.work a.arrivals.now end end (λ z h. unchanged z (omega arith)) (λ t h. h) c.requires.linked).chained later
 
 pub if_worth_following-aboard-requires-clause-latest : goal.if_worth_following-aboard-requires-clause-latest
 if_worth_following-aboard-requires-clause-latest g c =
@@ -86,7 +87,7 @@ loop-i-preserved-then-not-may_be_caught g c =
     let t = s.tariff.now in
     let laws = g.met.P.Tariff in
     let m = g.P.Tariff.meaning t in
-    let basis : Basis m s.trains.now s.stops.now = record { connex = laws.connex t; transitive = laws.transitive t; grows = laws.grows t; keeps = laws.keeps t; starts = laws.starts t; counts = laws.counts t; timetable = timetable_of s } in
+    let basis : Basis m = record { connex = laws.connex t; transitive = laws.transitive t; grows = laws.grows t; keeps = laws.keeps t; starts = laws.starts t; counts = laws.counts t } in
     let size = length s.stops.now in
     let layer = a.layer.number in
     let n = a.run.train in
@@ -102,12 +103,12 @@ loop-i-preserved-then-not-may_be_caught g c =
     let stop_is = ap (λ x. stop_at x l.i) c.stops-stops.ensures ∙ own_stop s.trains.now s.stops.now s.ordered n l.i li in
     let gone = left_by a.arrivals.now layer s.query.now (stop_at s.stops.now row) day (ap (λ x. may_be_caught a.arrivals.now layer s.query.now x day) (sym stop_is) ∙ sym c.may_be_caught.ensures ∙ c.if-not-may_be_caught.true) in
     let end = a.reached.now.end in
-    let linked = linked_same m s.stops.now layer a.work.now l.work a.arrivals.now end end (λ z h. l.invariant.unchanged z (omega arith)) (λ total h. h) c.requires.linked in
+    let linked = linked_same m s layer a.work.now l.work a.arrivals.now end end (λ z h. l.invariant.unchanged z (omega arith)) (λ total h. h) c.requires.linked in
     let none = not_some l.aboard (c.is_none.ensures ∙ ap not c.if-is_none.true) in
-    let to = λ (i : ℕ) (o : Option (Label _)). FilledTo m s.query.now s.trains.now s.stops.now layer n day a.reached.now a.work.now l.work i l.found o l.reached in
+    let to = λ (i : ℕ) (o : Option (Label _)). FilledTo m s layer n day a.reached.now a.work.now l.work i l.found o l.reached in
     subst (to (l.i + 1)) (sym none)
-    (filled_left m s.query.now s.trains.now s.stops.now layer n day a.reached.now basis c.requires.in_force a.work.now l.work l.i l.found l.reached (subst (to l.i) none l.invariant) li room few a.arrivals.now.known c.requires.linked.no_dearer
-    (λ runs best worse may filled. nobody_boards m s.query.now s.trains.now s.stops.now basis n day c.requires.in_force l.work (known_total best) runs l.i li a.arrivals.now worse layer linked.chained filled gone))
+    (filled_left m s layer n day a.reached.now basis c.requires.in_force a.work.now l.work l.i l.found l.reached (subst (to l.i) none l.invariant) li room few a.arrivals.now.known c.requires.linked.no_dearer
+    (λ runs best worse may filled. nobody_boards m s basis n day c.requires.in_force l.work (known_total best) runs l.i li a.arrivals.now worse layer linked.chained filled gone))
 
 pub loop-i-preserved : goal.loop-i-preserved
 loop-i-preserved g c =
@@ -116,7 +117,7 @@ loop-i-preserved g c =
     let t = s.tariff.now in
     let laws = g.met.P.Tariff in
     let m = g.P.Tariff.meaning t in
-    let basis : Basis m s.trains.now s.stops.now = record { connex = laws.connex t; transitive = laws.transitive t; grows = laws.grows t; keeps = laws.keeps t; starts = laws.starts t; counts = laws.counts t; timetable = timetable_of s } in
+    let basis : Basis m = record { connex = laws.connex t; transitive = laws.transitive t; grows = laws.grows t; keeps = laws.keeps t; starts = laws.starts t; counts = laws.counts t } in
     let size = length s.stops.now in
     let layer = a.layer.number in
     let n = a.run.train in
@@ -136,12 +137,12 @@ loop-i-preserved g c =
     let at : layer_at (length s.stops.now) a.layer.number + (c.place-place.result + l.i) ≡ part_at (length s.stops.now) a.layer.number a.run.shift + row.first + l.i = omega (arith, c.place-place.ensures) in
     let notes = c.keep.ensures.notes ∙ ap₂ (λ (x y : ℕ). noted l.reached.notes layer x y c.if_worth_following-aboard.result) spot at in
     let next = c.keep.ensures.work ∙ ap (λ x. set l.work x (record_of c.if_worth_following-aboard.result)) at in
-    filled_more m s.query.now s.trains.now s.stops.now layer n a.run.shift a.reached.now basis c.requires.in_force a.work.now l.work l.i l.found l.aboard c.if_worth_following-aboard.result l.reached c.keep.new.reached l.invariant li room few kept c.keep.new.work next known notes (l.found || c.is_some-found.result) c.match-get.aboard (ap (λ b. l.found || b) c.is_some-found.ensures)
+    filled_more m s layer n a.run.shift a.reached.now basis c.requires.in_force a.work.now l.work l.i l.found l.aboard c.if_worth_following-aboard.result l.reached c.keep.new.reached l.invariant li room few kept c.keep.new.work next known notes (l.found || c.is_some-found.result) c.match-get.aboard (ap (λ b. l.found || b) c.is_some-found.ensures)
     (elim c.match-get.branch [
       | in-Some w ↦
           let on : l.i + 1 < length c.stops-stops.result.now = ltb-true _ _ (sym w.in-Some.ensures.lookup.0) in
           let there_is = get_or_read c.stops-stops.result.now (l.i + 1) _ on w.in-Some.ensures.lookup.1 _ ∙ ap (λ x. stop_at x (l.i + 1)) c.stops-stops.ensures ∙ own_stop s.trains.now s.stops.now s.ordered n (l.i + 1) (omega arith) in
-          comes_next m s.query.now s.trains.now s.stops.now layer n a.run.shift a.reached.now basis c.requires.in_force a.work.now l.work l.i l.found l.aboard c.if_worth_following-aboard.result l.reached c.keep.new.reached l.invariant li room few kept c.keep.new.work next known notes _ w.in-Some.next.now w.boarding-boarded.result w.if_promising-boarded.result c.match-get.aboard a.arrivals.now.known c.requires.linked.no_dearer stop_is there_is (omega arith) w.boarding-boarded.ensures.settles w.if_promising-boarded.ensures (w.aboard-is ∙ w.ride_on-aboard.ensures)
+          comes_next m s layer n a.run.shift a.reached.now basis c.requires.in_force a.work.now l.work l.i l.found l.aboard c.if_worth_following-aboard.result l.reached c.keep.new.reached l.invariant li room few kept c.keep.new.work next known notes _ w.in-Some.next.now w.boarding-boarded.result w.if_promising-boarded.result c.match-get.aboard a.arrivals.now.known c.requires.linked.no_dearer stop_is there_is (omega arith) w.boarding-boarded.ensures.settles w.if_promising-boarded.ensures (w.aboard-is ∙ w.ride_on-aboard.ensures)
       | in_default w ↦ λ runs may filled more. let none : length c.stops-stops.result.now ≤ l.i + 1 = ltb-false _ _ (sym w.in_default.ensures.lookup.0) in absurd (omega arith)
     ])
 
@@ -152,10 +153,10 @@ returns g c =
     let t = s.tariff.now in
     let laws = g.met.P.Tariff in
     let m = g.P.Tariff.meaning t in
-    let basis : Basis m s.trains.now s.stops.now = record { connex = laws.connex t; transitive = laws.transitive t; grows = laws.grows t; keeps = laws.keeps t; starts = laws.starts t; counts = laws.counts t; timetable = timetable_of s } in
+    let basis : Basis m = record { connex = laws.connex t; transitive = laws.transitive t; grows = laws.grows t; keeps = laws.keeps t; starts = laws.starts t; counts = laws.counts t } in
     let n = a.run.train in
     let l = c.loop-i in
     let long : length c.stops-stops.result.now ≡ (train_row n s.trains.now).count = ap length c.stops-stops.ensures ∙ own_count s.trains.now s.stops.now s.ordered n c.requires.in_force in
     let end : l.i ≡ (train_row n s.trains.now).count = omega arith in
-    let state = subst (λ (i : ℕ). FilledTo m s.query.now s.trains.now s.stops.now a.layer.number n a.run.shift a.reached.now a.work.now l.work i l.found l.aboard l.reached) end l.invariant in
-    fills_run m s.query.now s.trains.now s.stops.now a.layer.number n a.run.shift a.reached.now basis c.requires.in_force a.work.now l.work l.found l.aboard l.reached state
+    let state = subst (λ (i : ℕ). FilledTo m s a.layer.number n a.run.shift a.reached.now a.work.now l.work i l.found l.aboard l.reached) end l.invariant in
+    fills_run m s a.layer.number n a.run.shift a.reached.now basis c.requires.in_force a.work.now l.work l.found l.aboard l.reached state

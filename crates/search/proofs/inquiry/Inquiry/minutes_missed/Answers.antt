@@ -21,10 +21,10 @@ loop-stop-preserved g c =
       | then-may_board w ↦
           let late = w.missed_at.ensures ∙ ap (missed_at arrivals k s.query.now) is in
           rw (w.fewest-is ∙ w.min-fewest.ensures ∙ ap (min l.fewest) late)
-          (missed_more s.trains.now s.stops.now k s.query.now arrivals n l.stop-index l.fewest l.invariant (ap may_board (sym is) ∙ sym c.may_board.ensures ∙ w.if-may_board.true))
+          (missed_more s k arrivals n l.stop-index l.fewest l.invariant (ap may_board (sym is) ∙ sym c.may_board.ensures ∙ w.if-may_board.true))
       | else-may_board w ↦
           rw w.fewest-is
-          (missed_over s.trains.now s.stops.now k s.query.now arrivals n l.stop-index l.fewest l.invariant (ap may_board (sym is) ∙ sym c.may_board.ensures ∙ w.if-may_board.false))
+          (missed_over s k arrivals n l.stop-index l.fewest l.invariant (ap may_board (sym is) ∙ sym c.may_board.ensures ∙ w.if-may_board.false))
     ]
 
 pub returns : goal.returns
@@ -34,8 +34,8 @@ returns g c =
     let l = c.loop-stop in
     let long : length c.stops-stop-items.result.now ≡ (train_row n s.trains.now).count = ap length c.stops-stop-items.ensures ∙ own_count s.trains.now s.stops.now s.ordered n c.requires.in_force in
     let end : l.stop-index ≡ (train_row n s.trains.now).count = omega arith in
-    let all = subst (λ (i : ℕ). MissedBy s.trains.now s.stops.now c.args.layer.number s.query.now c.args.arrivals.now n i l.fewest) end l.invariant in
+    let all = subst (λ (i : ℕ). MissedBy s c.args.layer.number c.args.arrivals.now n i l.fewest) end l.invariant in
     record {
-      out_of_reach = λ day. out_of_reach s.trains.now s.stops.now c.args.layer.number s.query.now c.args.arrivals.now n l.fewest all day;
-      within_reach = λ day. within_reach s.trains.now s.stops.now c.args.layer.number s.query.now c.args.arrivals.now n l.fewest all day;
+      out_of_reach = λ day. out_of_reach s c.args.layer.number c.args.arrivals.now n l.fewest all day;
+      within_reach = λ day. within_reach s c.args.layer.number c.args.arrivals.now n l.fewest all day;
     }

@@ -3,4 +3,4 @@ use Rattle.search.proofs.inquiry.Inquiry.minutes_missed.Given as goal
 
 -- by that many minutes it is missed at the stops ahead
 abbrev pub invariant-loop-stop : goal.invariant-loop-stop
-invariant-loop-stop g l = MissedBy l.self.trains.now l.self.stops.now l.layer.number l.self.query.now l.arrivals l.train l.stop-index l.fewest
+invariant-loop-stop g l = MissedBy l.self l.layer.number l.arrivals l.train l.stop-index l.fewest

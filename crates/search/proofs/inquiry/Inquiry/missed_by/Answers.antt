@@ -17,14 +17,14 @@ loop-n-preserved g c =
         | inl b ↦ let ne : j ≢ l.n = omega arith in l.invariant.1 j day b (omega (arith, h, get_or-set_other l.missed_by l.n j here 0 ne))
         | inr b ↦
             let e : l.n ≡ j = omega arith in
-            subst (λ (i : ℕ). OutOfReach s.trains.now s.stops.now k s.query.now c.args.arrivals.now i day) e
+            subst (λ (i : ℕ). OutOfReach s k c.args.arrivals.now i day) e
             (c.minutes_missed.ensures.out_of_reach day (omega (arith, h, told, ap (λ i. get_or (set l.missed_by l.n here) i 0) e)))
       ],
       λ j day lj h. elim (cases_lt j l.n) [
         | inl b ↦ let ne : j ≢ l.n = omega arith in l.invariant.2 j day b (omega (arith, h, get_or-set_other l.missed_by l.n j here 0 ne))
         | inr b ↦
             let e : l.n ≡ j = omega arith in
-            subst (λ (i : ℕ). WithinReach s.trains.now s.stops.now k s.query.now c.args.arrivals.now i day) e
+            subst (λ (i : ℕ). WithinReach s k c.args.arrivals.now i day) e
             (c.minutes_missed.ensures.within_reach day (omega (arith, h, told, ap (λ i. get_or (set l.missed_by l.n here) i 0) e)))
       ],
     )
@@ -33,7 +33,7 @@ pub returns : goal.returns
 returns g c =
     let l = c.loop-n in
     record {
-      out_of_reach = λ n day ln h. l.invariant.1 n day (omega arith) h;
+      out_of_reach = λ day n ln h. l.invariant.1 n day (omega arith) h;
       within_reach = λ n day ln h. l.invariant.2 n day (omega arith) h;
       each = l.invariant.0;
     }

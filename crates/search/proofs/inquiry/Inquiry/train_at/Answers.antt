@@ -5,7 +5,7 @@ use Rattle.std.specs.List.Sorted.{IsPartitionPoint, IsPartitionedBy}
 use Rattle.book.specs.Answers.{train_row}
 use Rattle.book.specs.declared.rows.StopRow.{StopRow}
 use Rattle.book.specs.declared.rows.TrainRow.{TrainRow}
-use Rattle.search.specs.Layers.{InOrder}
+use Rattle.search.specs.Rows.{InOrder}
 use Rattle.search.proofs.RowsAreTrains.{after, spot_of}
 use Rattle.search.proofs.inquiry.Inquiry.train_at.Goals as goal
 
