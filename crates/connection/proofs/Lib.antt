@@ -16,9 +16,9 @@ mod NothingIsCut
 pub mod Onward
 pub mod Pushed
 mod RideByRide
+pub mod RidesUnderway
 mod RoomForSteps
 mod SameRides
 pub mod Settling
 pub mod Tests
 pub mod Times
-pub mod WaysAreConnections

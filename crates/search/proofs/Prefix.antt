@@ -6,12 +6,12 @@ use Rattle.book.specs.Trains.{Train, gapless, all_sound, all_stops, trains_in, t
 use Rattle.book.specs.declared.rows.StopRow.{StopRow}
 use Rattle.book.specs.declared.rows.TrainRow.{TrainRow}
 use Rattle.search.specs.Rows.{InOrder}
-use Rattle.book.specs.Limits.{most_stops}
+use Rattle.book.specs.Limits.{most_trains, most_stops}
 use Rattle.search.proofs.RowsAreTrains.{gapless_first, gapless_ends}
 
 -- ---- what holding says
 record Held (n s : ℕ) (trains : List TrainRow) (stops : List StopRow) : Type 0 where
-  few_trains : n ≤ 512
+  few_trains : n ≤ most_trains
   trains_fit : n ≤ length trains
   few_stops : s ≤ most_stops
   stops_fit : s ≤ length stops

@@ -1,8 +1,6 @@
 // Riding a run from stop to stop, and the labels of who is on board.
-ghost use Rattle.std.specs.Prelude.{◌≡◌, ◌+◌, ◌*◌, ◌<◌, ◌≤◌, true, length, None, option_map, slice_index_or, slice_set};
-ghost use Rattle.connection.specs.Choosing.{cheaper as cheaper_of};
-ghost use Rattle.connection.specs.Prices.{hop as hop_of, stand as stand_of};
-ghost use Rattle.connection.specs.Settled.{extended, no_dearer};
+ghost use Rattle.std.specs.Prelude.{◌≡◌, ◌+◌, ◌*◌, ◌<◌, ◌≤◌, true, length, None, slice_index_or, slice_set};
+ghost use Rattle.connection.specs.Settled.{ridden_on};
 ghost use Rattle.search.specs.Chains.{LinkedBefore};
 ghost use Rattle.search.specs.Ends.{known_total, with_end};
 ghost use Rattle.search.specs.Layers.{FillsRun, BlankFrom, run_begins};
@@ -100,7 +98,7 @@ impl<P: Tariff> Inquiry<'_, P> {
         stop: &StopRow,
         next: &StopRow,
     ) -> Option<Label<P::Total>>
-        ensures { result ≡ option_map (extended (P.Tariff.meaning self.now.tariff.now) (hop_of stop.now next.now)) (cheaper_of (no_dearer (P.Tariff.meaning self.now.tariff.now)) boarded (option_map (extended (P.Tariff.meaning self.now.tariff.now) (stand_of stop.now)) aboard)) }
+        ensures { result ≡ ridden_on (P.Tariff.meaning self.now.tariff.now) stop.now next.now boarded aboard }
     {
         let stayed = with_step(self.tariff, aboard, stand(stop));
         with_step(

@@ -31,17 +31,6 @@ module _ (l : List ℕ) where
         record { parted = fields_is l true e; lengths = omega (arith, there, length-take-le (ahead 44 l) l (omega arith), length-drop (ahead 44 l + 1) l) }
     at_test false e = absurd (omega (arith, ap length (fields_is l false e)))
 
-  last_field : length (fields l) ≡ 1 → fields l ≡ next_field l ∷ []
-  last_field h = at_test (has 44 l) refl where
-    some_field : (bs : List ℕ) → 0 < length (fields bs)
-    some_field bs = at_more (has 44 bs) refl where
-      at_more : (more : Bool) → has 44 bs ≡ more → 0 < length (fields bs)
-      at_more more e = omega (arith, ap length (fields_is bs more e))
-
-    at_test : (more : Bool) → has 44 l ≡ more → fields l ≡ next_field l ∷ []
-    at_test true e = absurd (omega (arith, ap length (fields_is l true e), some_field (after_field l)))
-    at_test false e = fields_is l false e
-
 -- ---- seven fields
 seven_alike : (k : ℕ) (column column' : ℕ → ℕ) (field field' : ℕ → List ℕ)
     → ((i : ℕ) → i < 7 → (column i ≡ column' i) × (field i ≡ field' i)) → seven_say k column field ≡ seven_say k column' field'
