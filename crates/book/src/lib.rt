@@ -10,8 +10,9 @@
 //                    \__ 11 ___/ \_ 12 _/
 //
 // The tables may hold anything: each call looks them over and refuses what does not hold. Who makes many calls in a row
-// lends them once (`lending`), and they are looked over once. No crate below `desk` allocates, so they are slices, with the counts in the book. They stay two parameters, since a struct of both would ask for the
-// right to write in calls that only read: `begin` and `check` read both, `stop` writes one, `finish` the other.
+// lends them once (`lending`), and they are looked over once. No crate below `office` allocates, so they are slices, with
+// the counts in the book. They stay two parameters, since a struct of both would ask for the right to write in calls that
+// only read: `begin` and `check` read both, `stop` writes one, `finish` the other.
 #![tactic(auto)]
 
 pub mod entering;
