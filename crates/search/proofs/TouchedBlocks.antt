@@ -1,7 +1,7 @@
 -- Outside the blocks that are touched all records are blank.
-use Rattle.std.proofs.Common.{◌≡◌, ℕ, ◌*◌, ◌<◌, ◌/◌, Bool, true, false, ◌≢◌, List, length, get_or, set, Some, None, Option, sym, ap, ◌∙◌, subst, inl, inr, arith, get_or-set_other, get_or-set_same}
+use Rattle.std.proofs.Common.{◌≡◌, ℕ, ◌*◌, ◌<◌, ◌/◌, Bool, true, false, ◌≢◌, List, length, take, get_or, set, Some, None, Option, sym, ap, ◌∙◌, subst, inl, inr, arith, get_or-set_other, get_or-set_same}
 use Rattle.std.proofs.lemmas.Bool.{cases_lt}
-use Rattle.std.proofs.lemmas.List.{length-set, length-replicate}
+use Rattle.std.proofs.lemmas.List.{length-set, length-replicate, length-take, get_or-take}
 use Rattle.connection.specs.declared.label.Label.{Label}
 use Rattle.search.specs.Layers.{BlankFrom}
 use Rattle.search.specs.Notes.{no_notes, with_note, BlankElsewhere}
@@ -51,3 +51,7 @@ module _ {A : Type 0} (at : ℕ) (old new : List (WorkRecord A)) (n : Notes) (h 
 
 pub elsewhere_first : {A : Type 0} (table : List (WorkRecord A)) → BlankFrom 0 table → BlankElsewhere table no_notes
 elsewhere_first table blanks = record { long = length-replicate blocks false; blank = λ z clear. blanks z (omega arith) }
+
+-- a block among the first n that is not touched among them
+pub untouched_ahead : (n : ℕ) (touched : List Bool) (i : ℕ) → i < length (take n touched) → get_or (take n touched) i false ≡ false → get_or touched i false ≡ false
+untouched_ahead n touched i h e = sym (get_or-take n touched i false (omega (arith, length-take n touched))) ∙ e

@@ -26,9 +26,9 @@ never = 65535
 abbrev pub comes : Query → StopRow → Shift → ℕ
 comes q stop s = cond (may_alight stop) (reaches_at q s stop) never
 
--- nobody has arrived anywhere
+-- before the first layer, which clears them, nothing counts but that no end is known
 abbrev pub no_arrivals : {A : Type 0} → Arrivals A
-no_arrivals = record { heads = replicate stations None; nexts = replicate most_places None; minutes = replicate most_places 0; earliest = replicate stations never; known = None }
+no_arrivals = record { heads = replicate stations None; nexts = replicate most_places None; minutes = replicate most_places 0; earliest = replicate stations 0; known = None }
 
 -- the chains of a new layer: what comes next counts only behind a first place
 abbrev pub cleared : {A : Type 0} → Arrivals A → Option (End A) → Arrivals A

@@ -29,7 +29,8 @@ pub struct Arrivals<T> {
 }
 
 impl<T: Copy> Arrivals<T> {
-    // Nobody has arrived anywhere.
+    // Before the first layer, which clears them: of zeros throughout, so that they are made at one stroke.
+    #[inline(always)]
     pub fn none() -> Arrivals<T>
         ensures { result ≡ no_arrivals }
     {
@@ -37,7 +38,7 @@ impl<T: Copy> Arrivals<T> {
             heads: [None; STATIONS],
             nexts: [None; MOST_PLACES],
             minutes: [0; MOST_PLACES],
-            earliest: [NEVER; STATIONS],
+            earliest: [0; STATIONS],
             known: None,
         }
     }

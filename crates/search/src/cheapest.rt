@@ -9,7 +9,7 @@ ghost use Rattle.search.specs.Working.{size_of, asked_over, HasLayers};
 
 use crate::inquiry::Inquiry;
 use crate::layer::Layer;
-use crate::limits::BLOCK;
+use crate::limits::{BLOCK, BLOCKS};
 use crate::notes::Notes;
 use crate::reached::Reached;
 use crate::record::WorkRecord;
@@ -61,7 +61,9 @@ fn blank_touched<T: Copy>(work: &mut [WorkRecord<T>], notes: &Notes)
     ensures { work.new ≡ replicate (length work.old) blank }
 {
     let size = work.len();
-    for (block, touched) in notes.touched.iter().enumerate() {
+    // a short table has few blocks
+    let blocks = BLOCKS.min(size / BLOCK + 1);
+    for (block, touched) in notes.touched[..blocks].iter().enumerate() {
         if *touched {
             let end = size.min((block + 1) * BLOCK);
             blank_block(&mut work[end.min(block * BLOCK)..end]);

@@ -1,11 +1,12 @@
 use Rattle.std.proofs.Common.{◌≡◌, ℕ, ◌+◌, ◌-◌, ◌≤◌, ◌/◌, false, take, drop, length, get_or, replicate, sym, ap, ◌∙◌, subst, inl, inr, arith}
 use Rattle.std.proofs.lemmas.Bool.{cases_lt}
-use Rattle.std.proofs.lemmas.List.{get_or_past, length-take-le, length-drop}
+use Rattle.std.proofs.lemmas.List.{get_or_past, length-take, length-take-le, length-drop}
 use borrow.Rule.Slice.PartMut.{put_mid}
 use Rattle.search.specs.Notes.{BlankElsewhere}
 use Rattle.search.specs.Records.{blank}
-use Rattle.search.specs.Limits.{block}
+use Rattle.search.specs.Limits.{block, blocks}
 use Rattle.search.proofs.BlankRecords.{blanked, still_blank, part_blank}
+use Rattle.search.proofs.TouchedBlocks.{untouched_ahead}
 use Rattle.search.proofs.cheapest.blank_touched.Goals as goal
 use Rattle.search.proofs.cheapest.blank_touched.Goals.{then-touched, else-touched}
 
@@ -34,7 +35,7 @@ loop-block-preserved g c =
       | else-touched w ↦ (
         λ z h. subst (λ t. get_or t z blank ≡ blank) (sym w.work-is) (elim (cases_lt (z / block) l.block) [
           | inl b ↦ l.invariant.0 z b
-          | inr b ↦ let e : l.block ≡ z / block = omega arith in l.invariant.1.blank z (ap (λ x. get_or c.args.notes.now.touched x false) (sym e) ∙ w.if-touched.false)
+          | inr b ↦ let e : l.block ≡ z / block = omega arith in l.invariant.1.blank z (ap (λ x. get_or c.args.notes.now.touched x false) (sym e) ∙ untouched_ahead _ c.args.notes.now.touched l.block (omega arith) w.if-touched.false)
         ]),
         subst (λ t. BlankElsewhere t c.args.notes.now) (sym w.work-is) l.invariant.1,
       )
@@ -46,6 +47,10 @@ returns g c =
     blanked (length l.work) l.work (omega arith)
     (λ z h. elim (cases_lt (z / block) l.block) [
       | inl b ↦ l.invariant.0 z b
-      | inr b ↦ l.invariant.1.blank z (get_or_past c.args.notes.now.touched (z / block) false (omega (arith, l.invariant.1.long)))
+      | inr b ↦
+          let noted = c.args.notes.now.touched in
+          let all : c.min-blocks.result ≤ l.block = omega (arith, length-take c.min-blocks.result noted, l.invariant.1.long, c.min-blocks.ensures, c.loop-block-test.false) in
+          let past : blocks ≤ z / block = omega (arith, c.min-blocks.ensures, l.auto.work) in
+          l.invariant.1.blank z (get_or_past noted (z / block) false (omega (arith, l.invariant.1.long)))
     ])
     ∙ ap (λ n. replicate n blank) l.auto.work
