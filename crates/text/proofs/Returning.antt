@@ -1,25 +1,29 @@
 -- Reading and writing undo each other: an accepted text comes back byte for byte, and a written book row by row.
-use Rattle.std.proofs.Common.{◌≡◌, ℕ, ◌≤◌, Bool, true, false, cond, ltb, List, [], ◌++◌, length, take, drop, Some, Ok, Err, Option, Result, sym, refl, ap, ◌∙◌, subst, ap₂, arith}
+use Rattle.std.proofs.Common.{◌≡◌, ℕ, ◌≤◌, ltb, List, [], ◌∷◌, ◌++◌, length, take, drop, Some, None, Ok, Option, Result, sym, refl, ap, ◌∙◌, subst, ap₂, arith}
 use Rattle.std.specs.List.{flat_map}
 use Rattle.std.proofs.Math.Seq.{take-append_seam}
 use Rattle.std.proofs.lemmas.Bool.{le-ltb}
-use Rattle.book.specs.Answers.{new_book}
+use Rattle.book.specs.Answers.{new_book, given_unless}
 use Rattle.book.specs.Histories.{History, new, Closed, Lawful, RowsHold, EveryHistoryHolds, EveryRefusalAgrees, EveryHistoryIsLawful}
 use Rattle.book.specs.PlainList.{Call, InForce, none_open, in_force}
+use Rattle.book.specs.Reasons.{or_damaged}
 use Rattle.book.specs.Rules.{SoundIsTheRules}
 use Rattle.book.specs.Trains.{Train, listed, all_stops, meaning}
 use Rattle.book.specs.declared.refusal.Refusal.{Refusal as BookRefusal}
+use Rattle.book.specs.declared.refusal.Refusal.TheVariants.{Damaged}
 use Rattle.book.specs.declared.rows.StopRow.{StopRow}
 use Rattle.book.specs.declared.rows.TrainRow.{TrainRow}
 use Rattle.book.specs.declared.state.Book.{Book}
 use Rattle.text.specs.Lines.{lines}
 use Rattle.text.specs.Reading.{Left, left, reading, from_names, unless_refused, read}
 use Rattle.text.specs.Returns.{ComesBack, BringsItsTrains, Restores}
-use Rattle.text.specs.Writing.{text_if_fits, write, length_of, at_front, buffer_after}
+use Rattle.text.specs.Writing.{write_fault, write_refusal, write, length_of, at_front, buffer_after}
 use Rattle.text.specs.Written.{lines_of, text_of, AllTyped}
 use Rattle.text.specs.declared.refusal.Refusal.{Refusal}
-use Rattle.text.specs.declared.refusal.Refusal.TheVariants.{ShortBuffer}
+use Rattle.text.specs.declared.refusal.Refusal.TheVariants.{Book as Refused, ShortBuffer}
 use Rattle.text.specs.declared.stage.Stage.TheVariants.{Between}
+use Rattle.book.proofs.FirstReason.{no_reason}
+use Rattle.book.proofs.RefusedBy.{given}
 use Rattle.text.proofs.Accepted.{LeadsTo, trains_read}
 use Rattle.text.proofs.AlongCalls.{At, meaning_at, check_none}
 use Rattle.text.proofs.Brought.{accepted_is_text}
@@ -27,24 +31,26 @@ use Rattle.text.proofs.ReadyToRead.{ready}
 use Rattle.text.proofs.RowsAreTrains.{Held, meaning_told, trains_counted, stops_counted, same_rows}
 pub use Rattle.text.proofs.ReadingIsCalls.{reads_on}
 
--- ---- what is written of rows that mean trains
-text_that_fits : (us : List Train) (room : ℕ) → length (text_of us) ≤ room → text_if_fits (Some us) room ≡ Ok (text_of us)
-text_that_fits us room h = ap (λ (d : Bool). cond d (Err ShortBuffer) (Ok (text_of us))) (le-ltb room (length (text_of us)) h)
+-- ---- what is written
+module _ (b : Book) (ts : List TrainRow) (ss : List StopRow) (room : ℕ) where
+  -- of rows that mean trains it is their text, where that fits
+  module _ (us : List Train) (m : meaning b.trains b.stops ts ss ≡ Some us) (fits : length (text_of us) ≤ room) where
+    not_refused : write_refusal b ts ss room ≡ None
+    unfolding write_refusal
+    not_refused =
+        ap (λ (o : Option (List Train)). or_damaged (Refused Damaged) o (λ (trains : List Train). write_fault trains room)) m
+        ∙ no_reason ((ltb room (length (text_of us)), ShortBuffer) ∷ []) (le-ltb room (length (text_of us)) fits, tt)
 
-text_told : (us : List Train) (room : ℕ) (text : List ℕ) → text_if_fits (Some us) room ≡ Ok text → text ≡ text_of us
-text_told us room text e = at_test (ltb room (length (text_of us))) e where
-  at_test : (t : Bool) → cond t (Err ShortBuffer) (Ok (text_of us)) ≡ Ok text → text ≡ text_of us
-  at_test true e = cc
-  at_test false e = cc
+    write_gives : write b ts ss room ≡ Ok (text_of us)
+    unfolding write
+    write_gives =
+        ap (λ (r : Option Refusal). given_unless r (text_of (listed b.trains ts ss))) not_refused
+        ∙ ap (λ (trains : List Train). Ok (text_of trains)) (meaning_told b.trains b.stops ts ss us m).1
 
-module _ (b : Book) (ts : List TrainRow) (ss : List StopRow) (us : List Train) (room : ℕ) (m : meaning b.trains b.stops ts ss ≡ Some us) where
-  write_gives : length (text_of us) ≤ room → write b ts ss room ≡ Ok (text_of us)
+  -- and nothing else is written
+  write_gave : (text : List ℕ) → write b ts ss room ≡ Ok text → text ≡ text_of (listed b.trains ts ss)
   unfolding write
-  write_gives h = ap (λ (o : Option (List Train)). text_if_fits o room) m ∙ text_that_fits us room h
-
-  write_gave : (text : List ℕ) → write b ts ss room ≡ Ok text → text ≡ text_of us
-  unfolding write
-  write_gave text e = text_told us room text (sym (ap (λ (o : Option (List Train)). text_if_fits o room) m) ∙ e)
+  write_gave text e = (given (write_refusal b ts ss room) _ text (sym e)).1
 
 module _ (every : EveryHistoryHolds) (agrees : EveryRefusalAgrees) where
   -- after any history the trains in force are those that the book lists
@@ -69,7 +75,7 @@ module _ (every : EveryHistoryHolds) (agrees : EveryRefusalAgrees) where
       let r = brings_its_trains text b ts ss (length ts) (length ss) [] after h e in
       let none : listed b.trains ts ss ≡ [] = ap (λ (x : Book). listed x.trains ts ss) empty in
       let m : meaning after.trains after.stops ts' ss' ≡ Some r.0 = r.1 ∙ ap (λ (us : List Train). Some (us ++ r.0)) none in
-      let w : write after ts' ss' (length buffer) ≡ Ok text = write_gives after ts' ss' r.0 (length buffer) m (omega (arith, ap length r.2)) ∙ ap Ok (sym r.2) in
+      let w : write after ts' ss' (length buffer) ≡ Ok text = write_gives after ts' ss' (length buffer) r.0 m (omega (arith, ap length r.2)) ∙ ap Ok (sym r.2) in
       (ap length_of w, ap (λ (x : Result (List ℕ) Refusal). buffer_after x buffer) w)
 
   -- ---- a written book
@@ -120,6 +126,6 @@ module _ (every : EveryHistoryHolds) (agrees : EveryRefusalAgrees) where
         let m = meaning_at every agrees rows_room stops_room ts ss us b a in
         let k = (meaning_told b.trains b.stops ts ss us m).0 in
         let law = subst (λ (f : InForce). Lawful f.trains) a.force (lawful rows_room stops_room a.calls (Closed b) ts ss a.history) in
-        let back = front_back text buffer n (let z : n ≡ length text = cc in z) ∙ write_gave b ts ss us room m text w in
+        let back = front_back text buffer n (let z : n ≡ length text = cc in z) ∙ write_gave b ts ss room text w in
         subst (λ (x : List ℕ). Gives (read x new_book rows stops) b ts ss) (sym back)
         (text_gives us law typed rows stops (omega (arith, trains_counted b.trains b.stops ts ss k)) (omega (arith, stops_counted b.trains b.stops ts ss k)) b ts ss k refl)

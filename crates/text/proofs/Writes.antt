@@ -1,7 +1,7 @@
 -- What writing answers and leaves in the buffer, by whether the rows hold and the text fits.
-use Rattle.std.proofs.Common.{◌≡◌, ℕ, ◌≤◌, true, false, cond, List, ◌++◌, length, drop, Ok, Err, nat_lt, nat_le, zero-add, refl, sym, ap, ◌∙◌, arith}
+use Rattle.std.proofs.Common.{◌≡◌, ℕ, ◌≤◌, true, false, List, ◌++◌, length, drop, Ok, Err, nat_lt, nat_le, zero-add, refl, sym, ap, ◌∙◌, arith}
 use Rattle.std.proofs.lemmas.Bool.Decides.{nat_tests}
-use Rattle.book.specs.Answers.{check_answer}
+use Rattle.book.specs.Answers.{given_unless, check_answer}
 use Rattle.book.specs.Trains.{holds, listed}
 use Rattle.book.specs.declared.refusal.Refusal.{Refusal as BookRefusal}
 use Rattle.book.specs.declared.rows.StopRow.{StopRow}
@@ -9,13 +9,13 @@ use Rattle.book.specs.declared.rows.TrainRow.{TrainRow}
 use Rattle.book.specs.declared.state.Book.{Book as ABook}
 use Rattle.book.proofs.RefusedBy.{check_passed, check_failed}
 use Rattle.text.specs.Puts.{Put}
-use Rattle.text.specs.Writing.{write}
+use Rattle.text.specs.Writing.{write_fault, write_refusal, write}
 use Rattle.text.specs.Written.{text_of}
 use Rattle.text.specs.declared.refusal.Refusal.TheVariants.{Book, ShortBuffer}
 
 module _ (b : ABook) (ts : List TrainRow) (ss : List StopRow) where
   pub write_damaged : (room : ℕ) (r : BookRefusal) → check_answer b ts ss ≡ Err r → write b ts ss room ≡ Err (Book r)
-  unfolding write
+  unfolding write write_refusal
   write_damaged room r e = let f = check_failed b ts ss r (sym e) in rw (f.0, f.1) refl
 
   -- ---- the check passes; n is how many trains the book says it has
@@ -27,8 +27,8 @@ module _ (b : ABook) (ts : List TrainRow) (ss : List StopRow) where
     unfolding holds
     rows_fit = let h = held in grind (arith, nat_tests)
 
-    write_by_length : (room : ℕ) → write b ts ss room ≡ cond (nat_lt room (length (text_of (listed n ts ss)))) (Err ShortBuffer) (Ok (text_of (listed n ts ss)))
-    unfolding write
+    write_by_length : (room : ℕ) → write b ts ss room ≡ given_unless (write_fault (listed n ts ss) room) (text_of (listed n ts ss))
+    unfolding write write_refusal
     write_by_length room = rw (held, e) refl
 
     pub write_short : (room : ℕ) → nat_le (length (text_of (listed n ts ss))) room ≡ false → write b ts ss room ≡ Err ShortBuffer

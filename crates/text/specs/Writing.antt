@@ -1,7 +1,9 @@
 -- What writing a book into a lent buffer answers, and what it leaves there.
-use Rattle.std.specs.Prelude.{ℕ, cond, List, ◌++◌, length, drop, Some, None, Ok, Err, Option, Result, nat_lt, codes}
+use Rattle.std.specs.Prelude.{ℕ, List, [], ◌∷◌, ◌++◌, length, drop, Ok, Err, Option, Result, nat_lt, codes}
+use Rattle.book.specs.Answers.{given_unless}
+use Rattle.book.specs.Reasons.{first_of, or_damaged}
 use Rattle.book.specs.Refusals.{number as book_number, words as book_words}
-use Rattle.book.specs.Trains.{Train, meaning}
+use Rattle.book.specs.Trains.{Train, listed, meaning}
 use Rattle.book.specs.declared.refusal.Refusal.TheVariants.{Damaged}
 use Rattle.book.specs.declared.rows.StopRow.{StopRow}
 use Rattle.book.specs.declared.rows.TrainRow.{TrainRow}
@@ -20,13 +22,17 @@ abbrev pub words_of : Refusal → List ℕ
 words_of (Book r) = book_words r
 words_of ShortBuffer = codes "the buffer is too short for the text"
 
--- the trains' text, if it fits into `room` bytes, or why it is not written
-abbrev pub text_if_fits : Option (List Train) → ℕ → Result (List ℕ) Refusal
-text_if_fits None room = Err (Book Damaged)
-text_if_fits (Some ts) room = cond (nat_lt room (length (text_of ts))) (Err ShortBuffer) (Ok (text_of ts))
+-- over a plain list of trains, whose text is to fit into `room` bytes
+abbrev pub write_fault : List Train → ℕ → Option Refusal
+write_fault trains room = first_of ((nat_lt room (length (text_of trains)), ShortBuffer) ∷ [])
 
+-- over the tables: where their rows mean nothing, no other reason counts
+unfoldable pub write_refusal : ABook → List TrainRow → List StopRow → ℕ → Option Refusal
+write_refusal b ts ss room = or_damaged (Book Damaged) (meaning b.trains b.stops ts ss) (λ trains. write_fault trains room)
+
+-- the text of the book's trains, unless there is a reason to refuse it
 unfoldable pub write : ABook → List TrainRow → List StopRow → ℕ → Result (List ℕ) Refusal
-write b ts ss room = text_if_fits (meaning b.trains b.stops ts ss) room
+write b ts ss room = given_unless (write_refusal b ts ss room) (text_of (listed b.trains ts ss))
 
 -- how long the text is
 abbrev pub length_of : Result (List ℕ) Refusal → Result ℕ Refusal
