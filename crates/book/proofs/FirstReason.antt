@@ -1,5 +1,5 @@
--- What the first reason of a list tells of its tests.
-use Rattle.std.proofs.Common.{◌≡◌, ◌≢◌, Bool, true, false, List, [], ◌∷◌, ◌++◌, Some, None, Option, refl, ap, ap₂, ◌∙◌}
+-- `first_of` gives none just where no test holds, never a reason that is not listed, and of two lists in a row the first one's reason, else the second's.
+use Rattle.std.proofs.Common.{◌≡◌, ◌≢◌, Bool, true, false, List, [], ◌∷◌, ◌++◌, Some, None, refl, ap₂, ◌∙◌}
 use Rattle.std.specs.List.{AllByRecursion}
 use Rattle.std.specs.Option.{option_or}
 use Rattle.book.specs.Reasons.{first_of}
@@ -7,13 +7,6 @@ use Rattle.book.specs.Reasons.{first_of}
 module _ {R : Type 0} where
   abbrev pub NoneHolds : List (Bool × R) → Type 0
   NoneHolds reasons = AllByRecursion (λ (r : Bool × R). r.0 ≡ false) reasons
-
-  -- the reason is one of the list, its test holds, and no test ahead of it does
-  pub record IsFirst (reasons : List (Bool × R)) (reason : R) : Type 0 where
-    pub ahead : List (Bool × R)
-    pub behind : List (Bool × R)
-    pub parts : reasons ≡ ahead ++ ((true, reason) ∷ behind)
-    pub none_ahead : NoneHolds ahead
 
   -- ---- no reason
   pub none_holds : (reasons : List (Bool × R)) → first_of reasons ≡ None → NoneHolds reasons
@@ -25,21 +18,13 @@ module _ {R : Type 0} where
   no_reason [] h = refl
   no_reason (r ∷ rest) h = rw h.0 (no_reason rest h.1)
 
-  -- ---- some reason
-  pub is_first : (reasons : List (Bool × R)) (reason : R) → first_of reasons ≡ Some reason → IsFirst reasons reason
-  is_first [] reason e = absurd (cc)
-  is_first ((true, r) ∷ rest) reason e = record { ahead = []; behind = rest; parts = cc; none_ahead = tt }
-  is_first ((false, r) ∷ rest) reason e =
-      let f = is_first rest reason e in
-      record { ahead = (false, r) ∷ f.ahead; behind = f.behind; parts = ap (λ (rs : List (Bool × R)). (false, r) ∷ rs) f.parts; none_ahead = (refl, f.none_ahead) }
-
-  -- a reason that the list does not give is never the first
+  -- ---- a reason that the list does not give
   pub never_first : (reasons : List (Bool × R)) (reason : R) → AllByRecursion (λ (r : Bool × R). r.1 ≢ reason) reasons → first_of reasons ≢ Some reason
   never_first [] reason others e = cc
   never_first ((true, r) ∷ rest) reason others e = others.0 (cc)
   never_first ((false, r) ∷ rest) reason others e = never_first rest reason others.1 e
 
-  -- ---- reasons behind others
+  -- ---- two lists in a row
   pub first_of-append : (reasons more : List (Bool × R)) → first_of (reasons ++ more) ≡ option_or (first_of reasons) (first_of more)
   first_of-append [] more = refl
   first_of-append ((true, r) ∷ rest) more = refl
@@ -47,7 +32,3 @@ module _ {R : Type 0} where
 
   pub none_of_both : (reasons more : List (Bool × R)) → first_of reasons ≡ None → first_of more ≡ None → first_of (reasons ++ more) ≡ None
   none_of_both reasons more e f = first_of-append reasons more ∙ ap₂ option_or e f
-
-  pub neither : (a b : Option R) → option_or a b ≡ None → (a ≡ None) × (b ≡ None)
-  neither None b e = (refl, e)
-  neither (Some r) b e = absurd (cc)

@@ -4,7 +4,7 @@ mod FewCalls
 pub mod FirstReason
 mod Found
 mod Gaps
-mod Held
+pub mod Held
 mod KeptEntering
 mod KeptHistories
 mod KeptState

@@ -1,5 +1,5 @@
 -- Each refusal where the tables hold: that of the plain list, and over the numbers that the code compares.
-use Rattle.std.proofs.Common.{◌≡◌, ℕ, ◌+◌, ◌<◌, Bool, true, false, cond, not, eqb, ltb, List, [], ◌∷◌, length, take, ok_or, Some, None, Ok, Err, sym, refl, ap, ◌∙◌, length-take-le}
+use Rattle.std.proofs.Common.{◌≡◌, ℕ, ◌+◌, ◌<◌, Bool, true, false, cond, not, eqb, ltb, List, [], ◌∷◌, length, take, ok_or, Some, None, Ok, Err, Option, sym, refl, ap, ◌∙◌, length-take-le}
 use Rattle.std.specs.Option.{option_or}
 use Rattle.std.proofs.lemmas.Bool.{ltb-true, not-false, or_parts, leb-false}
 use Rattle.book.specs.Answers.{check_answer, ok_unless, given_unless, place, place_if_any}
@@ -14,7 +14,7 @@ use Rattle.book.specs.declared.rows.StopRow.{StopRow}
 use Rattle.book.specs.declared.rows.TrainRow.{TrainRow}
 use Rattle.book.specs.declared.state.Book.{Book}
 use Rattle.book.specs.declared.state.Entry.{Entry}
-use Rattle.book.proofs.FirstReason.{none_holds, neither, first_of-append}
+use Rattle.book.proofs.FirstReason.{none_holds, first_of-append}
 use Rattle.book.proofs.Held.{held, EntryHeld, entry_held, length_listed, length_open, all_stops_held}
 use Rattle.book.proofs.Places.{known_place, place_if_any_is}
 use Rattle.book.proofs.RefusedBy.{not_refused, not_damaged, check_failed}
@@ -81,6 +81,10 @@ module _ (b : Book) (trains : List TrainRow) (stops : List StopRow) (n : ℕ) wh
       ltb-true _ _ (sym (known_in_use h) ∙ not-false _ p.0)
 
 -- ---- of an entry
+neither : (a b : Option Refusal) → option_or a b ≡ None → (a ≡ None) × (b ≡ None)
+neither None b e = (refl, e)
+neither (Some r) b e = absurd (cc)
+
 module _ (e : Entry) (trains : List TrainRow) (stops : List StopRow) where
   module _ (s : StopRow) where
     pub stop_same : entry_holds e trains stops ≡ true → stop_refusal e trains stops s ≡ next_fault (length stops) (listed e.book.trains trains stops) (open_train e stops) s
