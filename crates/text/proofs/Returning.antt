@@ -1,5 +1,5 @@
 -- Reading and writing undo each other: an accepted text comes back byte for byte, and a written book row by row.
-use Rattle.std.proofs.Common.{◌≡◌, ℕ, ◌≤◌, ltb, List, [], ◌∷◌, ◌++◌, length, take, drop, Some, None, Ok, Option, Result, sym, refl, ap, ◌∙◌, subst, ap₂, arith}
+use Rattle.std.proofs.Common.{◌≡◌, ℕ, ◌≤◌, true, ltb, List, [], ◌∷◌, ◌++◌, length, take, drop, Some, None, Ok, Option, Result, sym, refl, ap, ◌∙◌, subst, ap₂, arith}
 use Rattle.std.specs.List.{flat_map}
 use Rattle.std.proofs.Math.Seq.{take-append_seam}
 use Rattle.std.proofs.lemmas.Bool.{le-ltb}
@@ -8,7 +8,7 @@ use Rattle.book.specs.Histories.{History, new, Closed, Lawful, RowsHold, EveryHi
 use Rattle.book.specs.PlainList.{Call, InForce, none_open, in_force}
 use Rattle.book.specs.Reasons.{or_damaged}
 use Rattle.book.specs.Rules.{SoundIsTheRules}
-use Rattle.book.specs.Trains.{Train, listed, all_stops, meaning}
+use Rattle.book.specs.Trains.{Train, listed, all_stops, holds, meaning}
 use Rattle.book.specs.declared.refusal.Refusal.{Refusal as BookRefusal}
 use Rattle.book.specs.declared.refusal.Refusal.TheVariants.{Damaged}
 use Rattle.book.specs.declared.rows.StopRow.{StopRow}
@@ -23,12 +23,13 @@ use Rattle.text.specs.declared.refusal.Refusal.{Refusal}
 use Rattle.text.specs.declared.refusal.Refusal.TheVariants.{Book as Refused, ShortBuffer}
 use Rattle.text.specs.declared.stage.Stage.TheVariants.{Between}
 use Rattle.book.proofs.FirstReason.{no_reason}
+use Rattle.book.proofs.Held.{held, length_listed, all_stops_held}
 use Rattle.book.proofs.RefusedBy.{given}
 use Rattle.text.proofs.Accepted.{LeadsTo, trains_read}
 use Rattle.text.proofs.AlongCalls.{At, meaning_at, check_none}
 use Rattle.text.proofs.Brought.{accepted_is_text}
 use Rattle.text.proofs.ReadyToRead.{ready}
-use Rattle.text.proofs.RowsAreTrains.{Held, meaning_told, trains_counted, stops_counted, same_rows}
+use Rattle.text.proofs.RowsAreTrains.{meaning_told, same_rows}
 pub use Rattle.text.proofs.ReadingIsCalls.{reads_on}
 
 -- ---- what is written
@@ -109,7 +110,7 @@ module _ (every : EveryHistoryHolds) (agrees : EveryRefusalAgrees) where
           ap (λ (o : Option BookRefusal). unless_refused o new_book rows stops (from_names (lines (text_of us)) new_book rows stops)) (check_none every agrees _ _ rows stops [] new_book at_new)
           ∙ leads.same
 
-      text_gives : (b : Book) (ts : List TrainRow) (ss : List StopRow) → Held b.trains b.stops ts ss → listed b.trains ts ss ≡ us → Gives (read (text_of us) new_book rows stops) b ts ss
+      text_gives : (b : Book) (ts : List TrainRow) (ss : List StopRow) → holds b.trains b.stops ts ss ≡ true → listed b.trains ts ss ≡ us → Gives (read (text_of us) new_book rows stops) b ts ss
       text_gives b ts ss h same =
           let there = meaning_told _ _ leads.rows leads.stop_rows us (meaning_at every agrees _ _ leads.rows leads.stop_rows us leads.book leads.at) in
           subst (λ (x : Left Book). Gives x b ts ss) (sym text_read)
@@ -128,4 +129,4 @@ module _ (every : EveryHistoryHolds) (agrees : EveryRefusalAgrees) where
         let law = subst (λ (f : InForce). Lawful f.trains) a.force (lawful rows_room stops_room a.calls (Closed b) ts ss a.history) in
         let back = front_back text buffer n (let z : n ≡ length text = cc in z) ∙ write_gave b ts ss room text w in
         subst (λ (x : List ℕ). Gives (read x new_book rows stops) b ts ss) (sym back)
-        (text_gives us law typed rows stops (omega (arith, trains_counted b.trains b.stops ts ss k)) (omega (arith, stops_counted b.trains b.stops ts ss k)) b ts ss k refl)
+        (text_gives us law typed rows stops (omega (arith, length_listed b.trains ts ss (held b.trains b.stops ts ss k).trains_fit)) (omega (arith, all_stops_held b.trains b.stops ts ss k)) b ts ss k refl)

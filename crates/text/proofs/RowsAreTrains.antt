@@ -1,31 +1,19 @@
 -- Rows that hold leave no gap, so they are given by the trains that they list.
 use Rattle.std.proofs.Common.{◌≡◌, ℕ, ◌+◌, ◌-◌, ◌≤◌, Bool, true, false, cond, List, [], ◌∷◌, ◌++◌, length, take, drop, Some, None, sym, refl, ap, ◌∙◌, ap₂, arith, length-drop, length-take-le, take-add}
-use lib.ListN.{length-map}
 use native.Mathlib.Nat.{sub-zero}
 use Rattle.std.specs.List.{flat_map}
 use Rattle.std.proofs.lemmas.Bool.{and_parts, eqb-true}
-use Rattle.std.proofs.lemmas.Bool.Decides.{nat_tests}
 use Rattle.std.proofs.lemmas.List.{drop-drop}
 use Rattle.book.specs.Trains.{Train, all_stops, gapless, trains_in, train_at, listed, holds, meaning}
 use Rattle.book.specs.declared.rows.StopRow.{StopRow}
 use Rattle.book.specs.declared.rows.TrainRow.{TrainRow}
-
--- ---- what holding says
-pub record Held (n s : ℕ) (trains : List TrainRow) (stops : List StopRow) : Type 0 where
-  pub trains_fit : n ≤ length trains
-  pub stops_fit : s ≤ length stops
-  pub no_gap : gapless 0 s (take n trains) ≡ true
-
-held : (n s : ℕ) (trains : List TrainRow) (stops : List StopRow) → holds n s trains stops ≡ true → Held n s trains stops
-unfolding holds
-held n s trains stops h =
-    record { trains_fit = grind (arith, nat_tests); stops_fit = grind (arith, nat_tests); no_gap = (and_parts _ _ (and_parts _ _ h).1).0 }
+use Rattle.book.proofs.Held.{held, length_listed, all_stops_held}
 
 -- rows that mean trains hold, and list just those
-pub meaning_told : (n s : ℕ) (trains : List TrainRow) (stops : List StopRow) (us : List Train) → meaning n s trains stops ≡ Some us → Held n s trains stops × (listed n trains stops ≡ us)
+pub meaning_told : (n s : ℕ) (trains : List TrainRow) (stops : List StopRow) (us : List Train) → meaning n s trains stops ≡ Some us → (holds n s trains stops ≡ true) × (listed n trains stops ≡ us)
 meaning_told n s trains stops us m = at_test (holds n s trains stops) refl m where
-  at_test : (t : Bool) → holds n s trains stops ≡ t → cond t (Some (listed n trains stops)) None ≡ Some us → Held n s trains stops × (listed n trains stops ≡ us)
-  at_test true h e = (held n s trains stops h, cc)
+  at_test : (t : Bool) → holds n s trains stops ≡ t → cond t (Some (listed n trains stops)) None ≡ Some us → (holds n s trains stops ≡ true) × (listed n trains stops ≡ us)
+  at_test true h e = (h, cc)
   at_test false h e = cc
 
 -- ---- rows without a gap, from the row `at` on up to the row `end`
@@ -47,10 +35,6 @@ module _ (stops : List StopRow) where
       let p = gapless_first at end r rs g in
       let q = gapless_ends (at + r.count) end rs p.1 in
       length-take-le r.count (drop r.first stops) (simp length-drop (omega (arith, p.0)))
-
-  stops_up_to : (at end : ℕ) (rows : List TrainRow) → end ≤ length stops → gapless at end rows ≡ true → at + all_stops (trains_in rows stops) ≡ end
-  stops_up_to at end [] fit g = let e = eqb-true at end g in omega arith
-  stops_up_to at end (r ∷ rs) fit g = omega (arith, count_is at end r rs fit g, stops_up_to (at + r.count) end rs fit (gapless_first at end r rs g).1)
 
   rows_from : (at end : ℕ) (rows : List TrainRow) → end ≤ length stops → gapless at end rows ≡ true → rows ≡ rows_of at (trains_in rows stops)
   unfolding rows_of
@@ -77,19 +61,14 @@ module _ (stops : List StopRow) where
   stops_in_use : (end : ℕ) (rows : List TrainRow) → end ≤ length stops → gapless 0 end rows ≡ true → take end stops ≡ flat_map (λ (t : Train). t.stops) (trains_in rows stops)
   stops_in_use end rows fit g = ap (λ (k : ℕ). take k stops) (sym (sub-zero end)) ∙ stops_from 0 end rows fit g
 
--- ---- the trains count the rows in use ..
-pub trains_counted : (n s : ℕ) (trains : List TrainRow) (stops : List StopRow) → Held n s trains stops → length (listed n trains stops) ≡ n
-trains_counted n s trains stops h = length-map (take n trains) (train_at stops) ∙ length-take-le n trains h.trains_fit
-
-pub stops_counted : (n s : ℕ) (trains : List TrainRow) (stops : List StopRow) → Held n s trains stops → all_stops (listed n trains stops) ≡ s
-stops_counted n s trains stops h = omega (arith, stops_up_to stops 0 s (take n trains) h.stops_fit h.no_gap)
-
--- .. and give them: two books of the same trains have the same rows in use
-pub same_rows : (n s m r : ℕ) (ts us : List TrainRow) (ss vs : List StopRow) → Held n s ts ss → Held m r us vs → listed n ts ss ≡ listed m us vs
+-- ---- two books of the same trains have the same rows in use
+pub same_rows : (n s m r : ℕ) (ts us : List TrainRow) (ss vs : List StopRow) → holds n s ts ss ≡ true → holds m r us vs ≡ true → listed n ts ss ≡ listed m us vs
     → (n ≡ m) × (s ≡ r) × (take n ts ≡ take m us) × (take s ss ≡ take r vs)
-same_rows n s m r ts us ss vs a b e = (
-  sym (trains_counted n s ts ss a) ∙ ap length e ∙ trains_counted m r us vs b,
-  sym (stops_counted n s ts ss a) ∙ ap all_stops e ∙ stops_counted m r us vs b,
-  rows_from ss 0 s (take n ts) a.stops_fit a.no_gap ∙ ap (rows_of 0) e ∙ sym (rows_from vs 0 r (take m us) b.stops_fit b.no_gap),
-  stops_in_use ss s (take n ts) a.stops_fit a.no_gap ∙ ap (flat_map (λ (t : Train). t.stops)) e ∙ sym (stops_in_use vs r (take m us) b.stops_fit b.no_gap),
-)
+same_rows n s m r ts us ss vs g h e =
+    let a = held n s ts ss g in
+    let b = held m r us vs h in (
+      sym (length_listed n ts ss a.trains_fit) ∙ ap length e ∙ length_listed m us vs b.trains_fit,
+      sym (all_stops_held n s ts ss g) ∙ ap all_stops e ∙ all_stops_held m r us vs h,
+      rows_from ss 0 s (take n ts) a.stops_fit a.no_gap ∙ ap (rows_of 0) e ∙ sym (rows_from vs 0 r (take m us) b.stops_fit b.no_gap),
+      stops_in_use ss s (take n ts) a.stops_fit a.no_gap ∙ ap (flat_map (λ (t : Train). t.stops)) e ∙ sym (stops_in_use vs r (take m us) b.stops_fit b.no_gap),
+    )
