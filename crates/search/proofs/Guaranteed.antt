@@ -26,7 +26,8 @@ use Rattle.search.specs.declared.record.WorkRecord.{WorkRecord}
 use Rattle.search.specs.declared.refusal.Refusal.{Refusal}
 use Rattle.search.specs.declared.refusal.Refusal.TheVariants.{Book, NoConnection}
 use Rattle.search.specs.declared.timetable.Timetable.{Timetable as Lent}
-use Rattle.search.proofs.Prefix.{in_order, same_trains, long_stops, stops_counted}
+use Rattle.book.proofs.Held.{all_stops_held}
+use Rattle.search.proofs.Prefix.{in_order, same_trains, long_stops}
 use Rattle.search.proofs.RowsAreTrains.{keep_the_rules, timely}
 
 -- ---- the check of the tables comes first
@@ -58,7 +59,7 @@ module _ {C : Type 0} (t : Lent C) where
     same_refusal : HoldsSo ≡ true → query_refusal q (length (take t.book.now.stops t.stops.now)) ride_room work_room ≡ search_refusal t q ride_room work_room
     same_refusal f =
         ap (λ n. query_refusal q n ride_room work_room)
-        (long_stops t.book.now.trains t.book.now.stops t.trains.now t.stops.now f ∙ sym (stops_counted t.book.now.trains t.book.now.stops t.trains.now t.stops.now f))
+        (long_stops t.book.now.trains t.book.now.stops t.trains.now t.stops.now f ∙ sym (all_stops_held t.book.now.trains t.book.now.stops t.trains.now t.stops.now f))
         ∙ sym (after_check f)
 
 -- ---- a query that is not refused can be asked

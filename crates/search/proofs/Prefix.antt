@@ -1,39 +1,12 @@
 -- The rows in use, in tables that may be longer, hold the trains that are listed, and are in order.
-use Rattle.std.proofs.Common.{◌≡◌, ℕ, ◌+◌, ◌-◌, ◌≤◌, true, List, [], ◌∷◌, length, take, drop, refl, ap, ◌∙◌, ap₂, arith, length-drop}
+use Rattle.std.proofs.Common.{◌≡◌, ℕ, ◌+◌, ◌-◌, ◌≤◌, true, List, [], ◌∷◌, length, take, drop, refl, ap, ◌∙◌, ap₂, arith}
 use Rattle.std.proofs.lemmas.List.{length-take-le, take-take, drop-take}
-use Rattle.std.proofs.lemmas.Bool.{and_parts, leb-true, eqb-true}
-use Rattle.book.specs.Trains.{Train, gapless, all_sound, all_stops, trains_in, train_at, listed, holds}
+use Rattle.book.specs.Trains.{Train, gapless, trains_in, train_at, listed, holds}
 use Rattle.book.specs.declared.rows.StopRow.{StopRow}
 use Rattle.book.specs.declared.rows.TrainRow.{TrainRow}
 use Rattle.search.specs.Rows.{InOrder}
-use Rattle.book.specs.Limits.{most_trains, most_stops}
+use Rattle.book.proofs.Held.{held}
 use Rattle.search.proofs.RowsAreTrains.{gapless_first, gapless_ends}
-
--- ---- what holding says
-record Held (n s : ℕ) (trains : List TrainRow) (stops : List StopRow) : Type 0 where
-  few_trains : n ≤ most_trains
-  trains_fit : n ≤ length trains
-  few_stops : s ≤ most_stops
-  stops_fit : s ≤ length stops
-  no_gap : gapless 0 s (take n trains) ≡ true
-  are_sound : all_sound (listed n trains stops) ≡ true
-
-held : (n s : ℕ) (trains : List TrainRow) (stops : List StopRow) → holds n s trains stops ≡ true → Held n s trains stops
-unfolding holds
-held n s trains stops h =
-    let p = and_parts _ _ h in
-    let q = and_parts _ _ p.1 in
-    let u = and_parts _ _ p.0 in
-    let v = and_parts _ _ u.0 in
-    let w = and_parts _ _ v.0 in
-    record {
-      few_trains = leb-true _ _ w.0;
-      trains_fit = leb-true _ _ w.1;
-      few_stops = leb-true _ _ v.1;
-      stops_fit = leb-true _ _ u.1;
-      no_gap = q.0;
-      are_sound = q.1;
-    }
 
 -- ---- rows without a gap
 -- they read nothing past the row where they end
@@ -52,16 +25,6 @@ trains_same at s (r ∷ rs) stops g =
     let k = gapless_ends (at + r.count) s rs p.1 in
     ap₂ {C = List Train} (λ (t : Train) (ts : List Train). t ∷ ts) (train_same s stops r (omega arith)) (trains_same (at + r.count) s rs stops p.1)
 
--- they have all the stops up to there
-stops_up_to : (at s : ℕ) (rows : List TrainRow) (stops : List StopRow) → s ≤ length stops → gapless at s rows ≡ true → at + all_stops (trains_in rows stops) ≡ s
-stops_up_to at s [] stops fit g = let e = eqb-true at s g in omega arith
-stops_up_to at s (r ∷ rs) stops fit g =
-    let p = gapless_first at s r rs g in
-    let k = gapless_ends (at + r.count) s rs p.1 in
-    let rest = stops_up_to (at + r.count) s rs stops fit p.1 in
-    let own : length (take r.count (drop r.first stops)) ≡ r.count = length-take-le r.count (drop r.first stops) (simp length-drop (omega arith)) in
-    omega arith
-
 module _ (n s : ℕ) (trains : List TrainRow) (stops : List StopRow) where
   pub trains_fit : holds n s trains stops ≡ true → n ≤ length trains
   trains_fit h = (held n s trains stops h).trains_fit
@@ -74,12 +37,6 @@ module _ (n s : ℕ) (trains : List TrainRow) (stops : List StopRow) where
 
   pub long_stops : holds n s trains stops ≡ true → length (take s stops) ≡ s
   long_stops h = length-take-le s stops (stops_fit h)
-
-  pub stops_counted : holds n s trains stops ≡ true → all_stops (listed n trains stops) ≡ s
-  stops_counted h =
-      let k = held n s trains stops h in
-      let e = stops_up_to 0 s (take n trains) stops k.stops_fit k.no_gap in
-      omega arith
 
   pub same_trains : holds n s trains stops ≡ true → trains_in (take n trains) (take s stops) ≡ listed n trains stops
   same_trains h = trains_same 0 s (take n trains) stops (held n s trains stops h).no_gap
