@@ -3,9 +3,8 @@ use Rattle.std.proofs.Common.{◌≡◌, ℕ, ◌<◌, ◌≤◌, T, eqb, ltb, l
 use Rattle.connection.specs.Clock.{ready}
 use Rattle.connection.specs.Connections.{Follows}
 use Rattle.connection.specs.Moves.{goes, boardable, starts, meets}
-use Rattle.connection.specs.Rides.{may_board, may_alight, offers, train_in_row, stops_at, stop_of, run_leaves, Allowed}
+use Rattle.connection.specs.Rides.{may_board, may_alight, offers, train_in_row, stops_at, stop_of, run_leaves, Allowed, ride}
 use Rattle.connection.specs.Timetable.{Timetable}
-use Rattle.connection.specs.Underway.{ride}
 use Rattle.connection.specs.declared.query.Query.{Query}
 use Rattle.connection.specs.declared.ride.Ride.{Ride}
 use Rattle.connection.specs.declared.ride.Shift.{Shift}

@@ -8,10 +8,9 @@ use Rattle.connection.specs.Connections.{Follows, Connection}
 use Rattle.connection.specs.Listing.{each_before, no_more_if, may_use, may_be_first, may_be_next, may_be_last, rides_of, rides_to_use, onward, connections, ListTells}
 use Rattle.connection.specs.Moves.{boardable}
 use Rattle.connection.specs.Prices.{price}
-use Rattle.connection.specs.Rides.{may_alight, stops_at, stop_of, Allowed}
+use Rattle.connection.specs.Rides.{may_alight, stops_at, stop_of, Allowed, ride}
 use Rattle.connection.specs.Shifts.{all_shifts}
 use Rattle.connection.specs.Timetable.{Timetable}
-use Rattle.connection.specs.Underway.{ride}
 use Rattle.connection.specs.declared.query.Query.{Query}
 use Rattle.connection.specs.declared.ride.Ride.{Ride}
 use Rattle.connection.specs.declared.ride.Shift.{Shift}

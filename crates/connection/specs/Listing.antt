@@ -6,10 +6,9 @@ use Rattle.connection.specs.Cheapest.{HasNoConnection}
 use Rattle.connection.specs.Connections.{Connection}
 use Rattle.connection.specs.Moves.{boardable, starts, ends, meets}
 use Rattle.connection.specs.Prices.{price}
-use Rattle.connection.specs.Rides.{may_alight, stops_at, alights}
+use Rattle.connection.specs.Rides.{may_alight, stops_at, alights, ride}
 use Rattle.connection.specs.Shifts.{all_shifts}
 use Rattle.connection.specs.Timetable.{Timetable}
-use Rattle.connection.specs.Underway.{ride}
 use Rattle.connection.specs.declared.query.Query.{Query}
 use Rattle.connection.specs.declared.ride.Ride.{Ride}
 use Rattle.connection.specs.declared.ride.Shift.{Shift}

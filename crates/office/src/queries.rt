@@ -6,7 +6,7 @@ use connection::ride::{Ride, Shift};
 use desk::asked::Asked;
 use desk::leg::leg_of;
 use desk::question::{Question, asked_by};
-use search::limits::MOST_CHANGES;
+use search::limits::MOST_RIDES;
 use search::record::WorkRecord;
 use search::search_in;
 use search::timetable::Timetable;
@@ -17,9 +17,6 @@ use tariff::Tariff;
 use tariff::fares::{FareTotal, Fares};
 use tariff::minutes::{MinuteTotal, Minutes};
 use tariff::waits::{WaitTotal, Waits};
-
-// As many rides as a query may allow.
-const MOST_RIDES: usize = MOST_CHANGES as usize + 1;
 
 const UNUSED: Ride = Ride {
     train: 0,

@@ -5,13 +5,18 @@ use Rattle.std.proofs.lemmas.Bool.{cases_lt}
 use Rattle.book.specs.Limits.{last_station, most_stops}
 use Rattle.connection.specs.declared.label.Label.{Label}
 use Rattle.connection.specs.declared.ride.Shift.{Shift}
-use Rattle.search.specs.Chains.{never, comes, cleared, with_arrival, arrived, ArrivesAt, Link, Chained}
+use Rattle.search.specs.Chains.{never, comes, cleared, with_arrival, ArrivesAt, Link, Chained}
 use Rattle.search.specs.Limits.{stations, most_places}
 use Rattle.search.specs.Working.{size_of, stop_in, place}
 use Rattle.search.specs.declared.chains.Arrivals.{Arrivals}
 use Rattle.search.specs.declared.ends.End.{End}
 use Rattle.search.specs.declared.inquiry.Inquiry.{Inquiry}
 use Rattle.search.proofs.RowsAreTrains.{place_below, same_place}
+
+-- with a label at the place it is taken
+abbrev pub arrived : {A : Type 0} → Arrivals A → (station minute x : ℕ) → Option (Label A) → Arrivals A
+arrived a station minute x None = a
+arrived a station minute x (Some l) = with_arrival a station minute x
 
 pub not_some : {A : Type 0} (o : Option A) → is_some o ≡ false → o ≡ None
 not_some None e = refl

@@ -1,4 +1,5 @@
 -- The cheapest end of filled layers is the price of a cheapest connection; without an end there is no connection.
+use Rattle.connection.specs.Connections.{most_rides}
 use Rattle.std.proofs.Common.{◌≡◌, ℕ, suc, ◌+◌, ◌<◌, ◌≤◌, T, ◌⊎◌, List, [], ◌∷◌, ◌++◌, length, take, drop, Some, None, Option, sym, refl, ap, ◌∙◌, subst, inl, inr, eqb, arith}
 use Rattle.std.proofs.lemmas.List.{length_push, take_all, take-append-le}
 use Rattle.std.proofs.lemmas.Bool.{cases_lt}
@@ -10,9 +11,9 @@ use Rattle.book.specs.declared.rows.TrainRow.{TrainRow}
 use Rattle.calendar.specs.Pairs.{Pairs}
 use Rattle.connection.specs.Cheapest.{Cheapest, HasNoConnection}
 use Rattle.connection.specs.Moves.{ends}
-use Rattle.connection.specs.Rides.{may_alight, stops_at, stop_of}
+use Rattle.connection.specs.Rides.{may_alight, stops_at, stop_of, ride}
 use Rattle.connection.specs.Settled.{Beats, Excused}
-use Rattle.connection.specs.Underway.{ride, Aboard}
+use Rattle.connection.specs.Underway.{Aboard}
 use Rattle.connection.specs.Ways.{Arrives}
 use Rattle.connection.specs.declared.label.Label.{Label}
 use Rattle.connection.specs.declared.query.Query.{Query}
@@ -29,7 +30,6 @@ use Rattle.search.specs.declared.reached.Reached.{Reached}
 use Rattle.search.specs.declared.record.WorkRecord.{WorkRecord}
 use Rattle.search.specs.declared.inquiry.Inquiry.{Inquiry}
 use Rattle.connection.specs.Timetable.{Timetable}
-use Rattle.search.specs.Limits.{most_rides}
 use Rattle.search.proofs.Basis.{Basis, ground}
 use Rattle.search.proofs.KnownEnds.{layer_ahead}
 use Rattle.search.proofs.LabelsInRecords.{trail_goes_on}
@@ -101,7 +101,7 @@ module _ {P A : Type 0} {m : Meaning A} {inquiry : Inquiry P} {runs : Pairs} {ta
       let h = subst (Holds m inquiry runs least table k n s i) (empty n s i (in_rows n ln) (on_train n i ln li)) (known.filled k n s i (omega arith) (in_rows n ln) (on_train n i ln li)) in
       elim (h.none_cheaper t x) [ inl b ↦ absurd b | inr d ↦ d ]
 
-  past_layers : (k n : ℕ) (s : Shift) (i : ℕ) (t : A) → k < q.changes + 1 → layers ≤ k → n < length trains → i < length (stops_at trains n) → Arrives m timetable q k n s i t → BeatenOrExcused k n s i t
+  past_layers : (k n : ℕ) (s : Shift) (i : ℕ) (t : A) → k < most_rides q → layers ≤ k → n < length trains → i < length (stops_at trains n) → Arrives m timetable q k n s i t → BeatenOrExcused k n s i t
   past_layers k n s i t lk h ln li x =
       elim known.all [
         | inl e ↦ absurd (omega (arith, e))
@@ -110,7 +110,7 @@ module _ {P A : Type 0} {m : Meaning A} {inquiry : Inquiry P} {runs : Pairs} {ta
             inr (nothing_from (ground basis inquiry runs) q least w.0 (last_has_none w.0 w.1 empty) k (omega (arith, w.1)) n s i t ln li x)
       ]
 
-  settled : (k : ℕ) → k < q.changes + 1 → (n : ℕ) (s : Shift) (i : ℕ) (t : A) → n < length trains → i < length (stops_at trains n) → Arrives m timetable q k n s i t → BeatenOrExcused k n s i t
+  settled : (k : ℕ) → k < most_rides q → (n : ℕ) (s : Shift) (i : ℕ) (t : A) → n < length trains → i < length (stops_at trains n) → Arrives m timetable q k n s i t → BeatenOrExcused k n s i t
   settled k lk n s i t ln li x =
       elim (cases_lt k layers) [ inl h ↦ in_layers k n s i t h ln li x | inr h ↦ past_layers k n s i t lk h ln li x ]
 

@@ -1,7 +1,7 @@
 -- A record that holds a label has its numbers, and so tells who changed from it.
+use Rattle.connection.specs.Rides.{ride}
 use Rattle.std.proofs.Common.{◌≡◌, ℕ, suc, ◌+◌, ◌*◌, ◌<◌, List, [], ◌∷◌, ◌++◌, length, get_or, Some, None, Option, sym, refl, ap, ◌∙◌, subst, add_assoc}
 use Rattle.book.specs.Answers.{train_row}
-use Rattle.connection.specs.Underway.{ride}
 use Rattle.connection.specs.declared.label.Label.{Label}
 use Rattle.connection.specs.declared.ride.Ride.{Ride}
 use Rattle.connection.specs.declared.ride.Shift.{Shift}

@@ -4,7 +4,7 @@ use Rattle.tariff.specs.Meaning.{Meaning}
 use Rattle.book.specs.Limits.{last_station, most_stops}
 use Rattle.connection.specs.declared.label.Label.{Label}
 use Rattle.connection.specs.declared.ride.Shift.{Shift}
-use Rattle.search.specs.Chains.{comes, arrived, Chained, promising}
+use Rattle.search.specs.Chains.{comes, Chained, promising}
 use Rattle.search.specs.Limits.{layer_size}
 use Rattle.search.specs.Notes.{past, up_to, Listed}
 use Rattle.search.specs.Working.{size_of, stop_in, number, place, layer_at, label_at, if_promising}
@@ -12,7 +12,7 @@ use Rattle.search.specs.declared.chains.Arrivals.{Arrivals}
 use Rattle.search.specs.declared.inquiry.Inquiry.{Inquiry}
 use Rattle.search.specs.declared.notes.Notes.{Notes}
 use Rattle.search.specs.declared.record.WorkRecord.{WorkRecord}
-use Rattle.search.proofs.Chaining.{chained_over, chained_more}
+use Rattle.search.proofs.Chaining.{arrived, chained_over, chained_more}
 use Rattle.search.proofs.ListedPlaces.{next_is, none_next}
 
 module _ {P A : Type 0} (m : Meaning A) (inquiry : Inquiry P) (k : ℕ) (known : Option A) (table : List (WorkRecord A)) (n : Notes) (listed : Listed (size_of inquiry) k (layer_size (size_of inquiry)) table n) where

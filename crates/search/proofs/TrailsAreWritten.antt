@@ -1,10 +1,10 @@
 -- A place is the spot of one stop, so the records tell one trail to it; and its last ride, put after the rides before, ends the trail.
+use Rattle.connection.specs.Rides.{ride}
 use Rattle.std.proofs.Common.{◌≡◌, ℕ, zero, suc, ◌+◌, ◌<◌, ◌≤◌, List, [], ◌∷◌, ◌++◌, length, get_or, drop, set, sym, ap, ◌∙◌, subst, ap₂, append_assoc, add-one, arith, length-append, drop-cons}
 use lib.Seq.{set_at}
 use Rattle.std.proofs.lemmas.List.{get_or_read}
 use Rattle.book.specs.declared.rows.StopRow.{StopRow}
 use Rattle.book.specs.declared.rows.TrainRow.{TrainRow}
-use Rattle.connection.specs.Underway.{ride}
 use Rattle.connection.specs.declared.ride.Ride.{Ride}
 use Rattle.connection.specs.declared.ride.Shift.{Shift}
 use Rattle.search.specs.Layers.{Spot, Trail, row_of}

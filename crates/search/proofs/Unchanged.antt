@@ -1,11 +1,11 @@
 -- What the layers before a layer tell is the same in two tables that agree on them, and stays so where a cheaper end is known.
+use Rattle.connection.specs.Rides.{ride}
 use Rattle.std.proofs.Common.{◌≡◌, ℕ, zero, suc, ◌+◌, ◌-◌, ◌*◌, ◌<◌, ◌≤◌, List, [], ◌∷◌, ◌++◌, get_or, Option, sym, ap, ◌∙◌, subst, add_assoc, arith}
 use Rattle.tariff.specs.Meaning.{Meaning}
 use Rattle.book.specs.declared.rows.StopRow.{StopRow}
 use Rattle.book.specs.declared.rows.TrainRow.{TrainRow}
 use Rattle.calendar.specs.Pairs.{Pairs}
 use Rattle.connection.specs.Settled.{SettlesBoarding}
-use Rattle.connection.specs.Underway.{ride}
 use Rattle.connection.specs.Ways.{Arrives}
 use Rattle.connection.specs.declared.label.Label.{Label}
 use Rattle.connection.specs.declared.query.Query.{Query}

@@ -11,10 +11,9 @@ use Rattle.connection.specs.Choosing.{only_when}
 use Rattle.connection.specs.Clock.{ready}
 use Rattle.connection.specs.Moves.{goes, boardable, with}
 use Rattle.connection.specs.Prices.{stretch}
-use Rattle.connection.specs.Rides.{can_catch, may_board, may_alight, does_run, offers, leaves_at, reaches_at, train_in_row, stops_at, stop_of, run_leaves, run_reaches}
+use Rattle.connection.specs.Rides.{can_catch, may_board, may_alight, does_run, offers, leaves_at, reaches_at, train_in_row, stops_at, stop_of, run_leaves, run_reaches, ride}
 use Rattle.connection.specs.Settled.{no_dearer, Hopeless, SettlesBoarding, SettlesArrival}
 use Rattle.connection.specs.Timetable.{Timetable}
-use Rattle.connection.specs.Underway.{ride}
 use Rattle.connection.specs.Ways.{Best, Boards, Arrives}
 use Rattle.connection.specs.declared.label.Label.{Label}
 use Rattle.connection.specs.declared.query.Query.{Query}

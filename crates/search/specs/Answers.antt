@@ -1,6 +1,7 @@
 -- What a search answers, and what it leaves in the ride list and the work table.
 use Rattle.std.specs.Prelude.{◌≡◌, ℕ, List, ◌++◌, length, take, drop, replicate, Some, None, Ok, Err, Option, Result}
 use Rattle.tariff.specs.Meaning.{Meaning}
+use Rattle.book.specs.Answers.{unless}
 use Rattle.book.specs.Histories.{History, Closed, LeadsOn}
 use Rattle.book.specs.PlainList.{Call, reads, in_force}
 use Rattle.book.specs.Trains.{listed}
@@ -77,5 +78,4 @@ rides_left (Err reason) old new = old
 
 -- every record is blank, unless the search was refused ahead of looking
 abbrev pub work_left : {Total : Type 0} → Option Refusal → List (WorkRecord Total) → List (WorkRecord Total)
-work_left (Some reason) old = old
-work_left None old = replicate (length old) blank
+work_left refusal old = unless refusal old (replicate (length old) blank)

@@ -45,11 +45,6 @@ with_arrival a station minute x =
       known = a.known;
     }
 
--- if there is a label at the place
-abbrev pub arrived : {A : Type 0} → Arrivals A → (station minute x : ℕ) → Option (Label A) → Arrivals A
-arrived a station minute x None = a
-arrived a station minute x (Some l) = with_arrival a station minute x
-
 -- ---- what that says
 -- the places of a chain lie ahead of this: behind its first place, or the start where it has none
 abbrev pub behind : Option ℕ → ℕ
@@ -94,7 +89,7 @@ there_from arrivals (suc k) q station = slice_index_or arrivals.earliest station
 abbrev pub missed_at : {A : Type 0} → Arrivals A → (k : ℕ) → Query → StopRow → ℕ
 missed_at arrivals k q stop = there_from arrivals k q stop.station - departure stop
 
--- one may board the run of that shift at the stop, and is there by the time that it leaves
+-- one may board the run of that shift at the stop, and is there when it leaves
 abbrev pub may_be_caught : {A : Type 0} → Arrivals A → (k : ℕ) → Query → StopRow → Shift → Bool
 may_be_caught arrivals k q stop s = may_board stop && nat_le (missed_at arrivals k q stop) (midnight q s)
 

@@ -1,5 +1,5 @@
 -- The labels at the destination.
-use Rattle.std.specs.Prelude.{◌≡◌, ℕ, ◌+◌, ◌<◌, Bool, true, false, ◌&&◌, T, List, Some, None, Option, ◌==◌}
+use Rattle.std.specs.Prelude.{◌≡◌, ℕ, ◌+◌, ◌<◌, Bool, true, false, ◌&&◌, T, List, Some, None, Option, option_map, ◌==◌}
 use Rattle.tariff.specs.Meaning.{Meaning}
 use Rattle.book.specs.declared.rows.StopRow.{StopRow}
 use Rattle.connection.specs.Choosing.{cheaper}
@@ -24,8 +24,7 @@ module _ {A : Type 0} where
 
   -- what the cheapest end that is known costs, if one is
   abbrev pub known_total : Option (End A) → Option A
-  known_total None = None
-  known_total (Some e) = Some e.total
+  known_total = option_map (λ (e : End A). e.total)
 
   -- the end that names a label by its layer and its place there
   abbrev pub end_of : ℕ → ℕ → Label A → End A

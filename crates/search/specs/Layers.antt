@@ -1,16 +1,17 @@
 -- What the layers of a work table hold.
+use Rattle.connection.specs.Connections.{most_rides}
+use Rattle.connection.specs.Rides.{ride}
 use Rattle.std.specs.Prelude.{◌≡◌, ℕ, zero, suc, ◌+◌, ◌<◌, ◌≤◌, Bool, true, false, ◌⊎◌, List, [], ◌∷◌, ◌++◌, length, get_or, None, Option, slice_index_or}
 use Rattle.tariff.specs.Meaning.{Meaning}
 use Rattle.book.specs.Answers.{train_row}
 use Rattle.book.specs.declared.rows.TrainRow.{TrainRow}
 use Rattle.calendar.specs.Pairs.{Pairs}
 use Rattle.connection.specs.Settled.{SettlesBoarding, SettlesArrival}
-use Rattle.connection.specs.Underway.{ride}
 use Rattle.connection.specs.declared.label.Label.{Label}
 use Rattle.connection.specs.declared.ride.Ride.{Ride}
 use Rattle.connection.specs.declared.ride.Shift.{Shift}
 use Rattle.search.specs.Ends.{known_total, Known, NoDearer}
-use Rattle.search.specs.Limits.{layer_size, most_rides}
+use Rattle.search.specs.Limits.{layer_size}
 use Rattle.search.specs.Notes.{no_notes, BlankElsewhere, Noted}
 use Rattle.search.specs.Records.{blank}
 use Rattle.search.specs.Working.{size_of, asked_over, may_use, place, layer_at, label_in}

@@ -1,4 +1,5 @@
 -- The numbers that bound a query and the tables that a search works in.
+use Rattle.connection.specs.Connections.{most_rides}
 use Rattle.std.specs.Prelude.{ℕ, ◌+◌, ◌*◌, ◌/◌}
 use Rattle.book.specs.Limits.{last_station, most_stops}
 use Rattle.connection.specs.declared.query.Query.{Query}
@@ -9,10 +10,6 @@ last_minute_of_day = 1439
 
 abbrev pub most_changes : ℕ
 most_changes = 15
-
--- how many rides a connection may have
-abbrev pub most_rides : Query → ℕ
-most_rides q = q.changes + 1
 
 -- how many stations there are
 abbrev pub stations : ℕ

@@ -1,4 +1,5 @@
 -- Why a search is refused ahead of looking for a connection: the earliest listed reason, and its number.
+use Rattle.connection.specs.Connections.{most_rides}
 use Rattle.std.specs.Prelude.{ℕ, Bool, ◌||◌, List, [], ◌∷◌, Option, ◌==◌, nat_le, nat_lt, codes}
 use Rattle.book.specs.Limits.{last_station}
 use Rattle.book.specs.Reasons.{first_of, or_damaged}
@@ -7,7 +8,7 @@ use Rattle.book.specs.Trains.{Train, all_stops, meaning}
 use Rattle.book.specs.declared.refusal.Refusal.TheVariants.{Damaged}
 use Rattle.connection.specs.Clock.{last_day}
 use Rattle.connection.specs.declared.query.Query.{Query}
-use Rattle.search.specs.Limits.{last_minute_of_day, most_changes, most_rides, records_needed}
+use Rattle.search.specs.Limits.{last_minute_of_day, most_changes, records_needed}
 use Rattle.search.specs.declared.refusal.Refusal.{Refusal}
 use Rattle.search.specs.declared.refusal.Refusal.TheVariants.{Book, BadQuery, SameStation, ShortRides, ShortWork, NoConnection}
 use Rattle.search.specs.declared.timetable.Timetable.{Timetable as Lent}

@@ -90,6 +90,7 @@ impl<P: Tariff> Inquiry<'_, P> {
         requires linked { ChainedLayer (P.Tariff.meaning self.now.tariff.now) self.now work.now layer.number arrivals.now }
         ensures best { IsBestChange (P.Tariff.meaning self.now.tariff.now) self.now work.now layer.number arrivals.now onward result }
     {
+        // who catches a train is there when it leaves
         if onward.minute < arrivals.earliest[onward.station as usize] {
             return None;
         }
@@ -120,14 +121,18 @@ impl<P: Tariff> Inquiry<'_, P> {
     ) -> Option<Label<P::Total>>
         ensures { result ≡ cheaper_of (no_dearer (P.Tariff.meaning self.now.tariff.now)) best (option_map (changed (P.Tariff.meaning self.now.tariff.now) came from onward) label) }
     {
-        if self.costs_at_most(best, label) {
+        if self.both_and_no_dearer(best, label) {
             return best;
         }
         cheaper(self.tariff, best, self.change(label, came, from, onward))
     }
 
     // Whether both are there, and the first costs no more.
-    fn costs_at_most(&self, first: Option<Label<P::Total>>, second: Option<Label<P::Total>>) -> bool
+    fn both_and_no_dearer(
+        &self,
+        first: Option<Label<P::Total>>,
+        second: Option<Label<P::Total>>,
+    ) -> bool
         ensures { result ≡ both_and_no_dearer (P.Tariff.meaning self.now.tariff.now) first second }
     {
         first

@@ -1,8 +1,8 @@
 // The cheapest connection over rows that hold a book.
+ghost use Rattle.connection.specs.Connections.{most_rides};
 ghost use Rattle.std.specs.Prelude.{◌≡◌, ◌≤◌, length, replicate};
 ghost use Rattle.search.specs.Answers.{FoundOrNone, rides_left};
 ghost use Rattle.search.specs.Layers.{BlankFrom};
-ghost use Rattle.search.specs.Limits.{most_rides};
 ghost use Rattle.search.specs.Notes.{BlankElsewhere};
 ghost use Rattle.search.specs.Records.{blank};
 ghost use Rattle.search.specs.Working.{size_of, asked_over, HasLayers};

@@ -1,11 +1,10 @@
 // Judges a query ahead of looking for a connection.
-ghost use Rattle.std.specs.Prelude.{◌≡◌, ◌^◌, ◌<◌, ◌≤◌};
+ghost use Rattle.std.specs.Prelude.{◌≡◌, ◌≤◌};
 ghost use Rattle.book.specs.Answers.{ok_unless};
 ghost use Rattle.book.specs.Limits.{most_stops};
-ghost use Rattle.search.specs.Limits.{layer_size, most_rides, records_needed};
 ghost use Rattle.search.specs.Refusals.{bad_query, query_refusal};
 
-use crate::limits::{LAST_MINUTE_OF_DAY, MOST_CHANGES};
+use crate::limits::{LAST_MINUTE_OF_DAY, MOST_CHANGES, records_needed};
 use crate::refusal::Refusal;
 use book::limits::LAST_STATION;
 use book::reasons::first_of;
@@ -23,30 +22,6 @@ fn is_bad(query: &Query) -> bool
         || query.changes > MOST_CHANGES
 }
 
-// How many rides a connection of the query may have.
-fn most_rides(query: &Query) -> usize
-    ensures is { result ≡ most_rides query.now }
-    ensures few { result ≤ 256 }
-{
-    query.changes as usize + 1
-}
-
-// How many records a layer has over so many stops in use.
-pub fn layer_size(stops: usize) -> usize
-    requires few { stops < 2 ^ 16 }
-    ensures { result ≡ layer_size stops }
-{
-    3 * stops
-}
-
-// How many records the query needs over so many stops in use.
-pub fn records_needed(query: &Query, stops: usize) -> usize
-    requires few { stops < 2 ^ 16 }
-    ensures { result ≡ records_needed stops query.now }
-{
-    layer_size(stops) * most_rides(query)
-}
-
 // Refuses the query that cannot be put to a book with so many stops in use, or that lacks room for its rides and records.
 pub fn judge(query: &Query, stops: usize, ride_room: usize, work_room: usize) -> Result<(), Refusal>
     requires few { stops ≤ most_stops }
@@ -55,7 +30,7 @@ pub fn judge(query: &Query, stops: usize, ride_room: usize, work_room: usize) ->
     first_of(&[
         (is_bad(query), Refusal::BadQuery),
         (query.origin == query.destination, Refusal::SameStation),
-        (ride_room < most_rides(query), Refusal::ShortRides),
+        (ride_room < query.most_rides(), Refusal::ShortRides),
         (work_room < records_needed(query, stops), Refusal::ShortWork),
     ])
 }

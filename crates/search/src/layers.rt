@@ -1,8 +1,8 @@
 // The layers of labels, one for each number of changes.
+ghost use Rattle.connection.specs.Connections.{most_rides};
 ghost use Rattle.std.specs.Prelude.{◌≡◌, ◌+◌, ◌≤◌, length};
 ghost use Rattle.search.specs.Chains.{LinkedBefore, TellsMissed};
 ghost use Rattle.search.specs.Layers.{nothing_reached, FillsShift, FillsLayer, Asked, AllFilled, BlankFrom};
-ghost use Rattle.search.specs.Limits.{most_rides};
 ghost use Rattle.search.specs.Notes.{Noted};
 ghost use Rattle.search.specs.Working.{size_of, place, layer_at, HasLayers};
 
@@ -34,7 +34,7 @@ impl<P: Tariff> Inquiry<'_, P> {
         ensures filled { AllFilled (P.Tariff.meaning self.now.tariff.now) self.now (Asked self.now usable.now) work.new reached.new }
     {
         let mut arrivals = Arrivals::none();
-        for number in 0..self.query.changes as usize + 1 {
+        for number in 0..self.query.most_rides() {
             let layer = Layer { number };
             if !self.fill_layer(work, layer, &arrivals, usable, reached) {
                 return;

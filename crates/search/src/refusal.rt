@@ -12,7 +12,8 @@ use std::fmt;
 pub enum Refusal {
     // the book refuses the tables
     Book(refusal::Refusal),
-    // a station is above 1,023, the day is not from 1 to 65,534, the minute is above 1,439 or the change limit above 15
+    // a station is above LAST_STATION, the day is 0 or from LAST_DAY on, the minute is above LAST_MINUTE_OF_DAY or the change
+    // limit above MOST_CHANGES
     BadQuery,
     // origin and destination are equal
     SameStation,

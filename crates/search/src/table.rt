@@ -5,8 +5,8 @@ ghost use Rattle.search.specs.Records.{record_of};
 ghost use Rattle.search.specs.Working.{size_of, number as number_of, place as place_of, layer_at, part_at, label_at};
 
 use crate::inquiry::Inquiry;
-use crate::judging::layer_size;
 use crate::layer::Layer;
+use crate::limits::layer_size;
 use crate::record::WorkRecord;
 use connection::label::Label;
 use connection::ride::Shift;

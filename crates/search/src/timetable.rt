@@ -3,7 +3,7 @@ ghost use Rattle.std.specs.Prelude.{◌≡◌};
 ghost use Rattle.book.specs.Answers.{check_answer};
 ghost use Rattle.search.specs.Limits.{records_needed};
 
-use crate::judging::records_needed;
+use crate::limits::records_needed;
 use book::refusal;
 use book::rows::{StopRow, TrainRow};
 use book::state::Book;

@@ -1,5 +1,5 @@
+use Rattle.connection.specs.Connections.{most_rides}
 use Rattle.std.proofs.Common.{◌+◌, replicate, None, refl, ap, ◌∙◌, arith}
-use Rattle.search.specs.Limits.{most_rides}
 use Rattle.search.specs.Records.{blank}
 use Rattle.search.specs.Working.{size_of}
 use Rattle.search.proofs.Basis.{Basis}

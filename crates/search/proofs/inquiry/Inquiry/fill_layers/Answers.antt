@@ -1,9 +1,10 @@
+use Rattle.connection.specs.Connections.{most_rides}
 use Rattle.std.proofs.Common.{◌≡◌, ℕ, ◌+◌, ◌-◌, length, None, Option, refl, sym, ap, ◌∙◌, subst, inl, inr, add-one, arith}
 use Rattle.std.proofs.lemmas.List.{length-replicate}
 use Rattle.connection.specs.Settled.{Hopeless}
 use Rattle.search.specs.Chains.{ChainedLayer}
 use Rattle.search.specs.Ends.{known_total, Known}
-use Rattle.search.specs.Limits.{most_places, most_rides}
+use Rattle.search.specs.Limits.{most_places}
 use Rattle.search.specs.Notes.{Noted}
 use Rattle.search.specs.Working.{size_of, layer_at}
 use Rattle.search.specs.declared.chains.Arrivals.{Arrivals}

@@ -1,6 +1,7 @@
+use Rattle.connection.specs.Connections.{most_rides}
 use Rattle.std.proofs.Common.{◌*◌, ◌≤◌, ap₂, mul-le-mul_right, arith}
-use Rattle.search.specs.Limits.{layer_size, most_rides}
-use Rattle.search.proofs.judging.records_needed.Goals as goal
+use Rattle.search.specs.Limits.{layer_size}
+use Rattle.search.proofs.limits.records_needed.Goals as goal
 
 pub overflow_mul-result : goal.overflow_mul-result
 overflow_mul-result c =
