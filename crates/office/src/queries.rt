@@ -12,7 +12,7 @@ use search::search_in;
 use search::timetable::Timetable;
 use search::work_table::WorkTable;
 use std::fmt;
-use std::io::{BufRead, BufReader};
+use std::io::{self, BufRead, BufReader, BufWriter, Write};
 use tariff::Tariff;
 use tariff::fares::{FareTotal, Fares};
 use tariff::minutes::{MinuteTotal, Minutes};
@@ -45,8 +45,9 @@ impl WorkTables {
 }
 
 // The cheapest connection under the tariff, ride by ride, and what it costs; or why there is none.
-fn print_found<P: Tariff, C: Calendar>(
+fn write_found<P: Tariff, C: Calendar, W: Write>(
     rt: &HostRuntime,
+    out: &mut W,
     timetable: &Timetable<C>,
     tariff: &P,
     query: Query,
@@ -64,39 +65,40 @@ where
         Ok((total, count)) => {
             for ride in &rides[..count] {
                 if let Some(leg) = leg_of(query.day, *ride, timetable.trains, timetable.stops) {
-                    println!(rt; "{leg}")?;
+                    writeln!(out, "{leg}")?;
                 }
             }
-            println!(rt; "  cost {total}, rides {count}")?;
+            writeln!(out, "  cost {total}, rides {count}")?;
         }
         Err(refusal) => {
             let number = refusal.number();
-            println!(rt; "  refused {number}: {refusal}")?;
+            writeln!(out, "  refused {number}: {refusal}")?;
         }
     }
     Ok(())
 }
 
 // The answer to the question, under the tariff that it asks for.
-fn print_answer<C: Calendar>(
+fn write_answer<C: Calendar, W: Write>(
     rt: &HostRuntime,
+    out: &mut W,
     timetable: &Timetable<C>,
     question: Question,
     work: &mut WorkTables,
 ) -> anyhow::Result<()> {
-    println!(rt; "{question}")?;
+    writeln!(out, "{question}")?;
     let Question { query, tariff } = question;
     match tariff {
         Asked::Minutes { penalty } => match Minutes::new(penalty) {
-            Ok(tariff) => print_found(rt, timetable, &tariff, query, &mut work.minutes),
+            Ok(tariff) => write_found(rt, out, timetable, &tariff, query, &mut work.minutes),
             Err(refusal) => {
                 let number = refusal.number();
-                println!(rt; "  refused {number}: {refusal}")?;
+                writeln!(out, "  refused {number}: {refusal}")?;
                 Ok(())
             }
         },
-        Asked::Fares => print_found(rt, timetable, &Fares, query, &mut work.fares),
-        Asked::Waits => print_found(rt, timetable, &Waits, query, &mut work.waits),
+        Asked::Fares => write_found(rt, out, timetable, &Fares, query, &mut work.fares),
+        Asked::Waits => write_found(rt, out, timetable, &Waits, query, &mut work.waits),
     }
 }
 
@@ -108,6 +110,7 @@ pub fn answer_all<C: Calendar>(
 ) -> anyhow::Result<()> {
     let timetable = Timetable::new(&file.book, &file.trains, &file.stops, calendar);
     let mut work = WorkTables::new(rt);
+    let mut out = BufWriter::new(rt.alloc(), io::writer(rt))?;
     let lines = BufReader::new(rt.alloc(), rt.stdin())?.split(rt.alloc(), b'\n');
     for (index, line) in lines.enumerate() {
         let line = line?;
@@ -115,10 +118,12 @@ pub fn answer_all<C: Calendar>(
             continue;
         }
         match asked_by(&line) {
-            Ok(question) => print_answer(rt, &timetable, question, &mut work)?,
-            Err(expected) => println!(rt; "  LINE {}: expected {expected}", index + 1)?,
+            Ok(question) => write_answer(rt, &mut out, &timetable, question, &mut work)?,
+            Err(expected) => writeln!(out, "  LINE {}: expected {expected}", index + 1)?,
         }
-        println!(rt; "")?;
+        writeln!(out, "")?;
+        // who asks line by line reads each answer ahead of the next question
+        out.flush()?;
     }
     Ok(())
 }
