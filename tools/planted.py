@@ -1,5 +1,5 @@
 #!/usr/bin/env python3
-"""Makes the table of planted bugs in docs/PROMISES.md: each must-fail edit, and the promise that refused it.
+"""Makes the tables of docs/PLANTED.md: each must-fail edit, and the promise that refused it.
 
     rt ci 2>&1 | python3 tools/planted.py
 
@@ -80,7 +80,7 @@ for crate in crates:
     edits = sorted(os.path.basename(e)[:-5] for e in glob.glob(f"crates/{crate}/must-fail/*.edit"))
     if not edits:
         continue
-    print(f"### `{crate}`: {len(edits)}\n\n| bug | refused by |\n|---|---|")
+    print(f"## `{crate}`: {len(edits)}\n\n| bug | refused by |\n|---|---|")
     for edit in edits:
         print(f"| {edit.replace('_', ' ')} | {tables.get(crate, {}).get(edit, '?')} |")
     print()
