@@ -1,8 +1,9 @@
 #!/usr/bin/env python3
 """Measures the program against its peers, on the same timetables and queries, and checks that their answers agree.
 
-    python3 bench/run.py            # some minutes; prints tables
-    python3 bench/run.py --quick    # less than a minute: small timetables, few queries, two runs
+    python3 bench/run.py               # some minutes; prints tables
+    python3 bench/run.py --quick       # about a minute: small timetables, few queries, two runs
+    python3 bench/run.py --no-graph    # without the peer that needs petgraph
 """
 import argparse
 import pathlib
@@ -32,14 +33,16 @@ def options():
     given = asked.parse_args()
     if given.quick:
         given.trains, given.queries, given.runs = 64, 40, 2
+    if not given.program.exists():
+        asked.error(f"{given.program} is not there: `rt run` in crates/pazhenool builds it; or give --program FILE")
     return given
 
 
 class Bench:
     def __init__(self, given):
         self.given = given
-        self.plain = peers.plain()
         self.graph = None if given.no_graph else peers.graph()
+        self.plain = peers.plain()
         self.nothing = self.file("nothing.queries", "")
 
     def file(self, name, text):
