@@ -1,5 +1,5 @@
 -- The line that is sold follows from what the call answers over what it is lent.
-use Rattle.std.proofs.Common.{◌≡◌, ◌≢◌, ℕ, ◌<◌, ◌≤◌, Bool, true, false, cond, List, length, take, replicate, Some, None, Ok, Err, Option, Result, sym, refl, ap, ◌∙◌, subst, arith}
+use Rattle.std.proofs.Common.{◌≡◌, ◌≢◌, ℕ, ◌<◌, ◌≤◌, Bool, true, false, cond, List, length, take, replicate, Some, None, Ok, Err, Option, Result, IsOk, is_ok, sym, refl, ap, ◌∙◌, subst, arith}
 use Rattle.std.proofs.lemmas.Bool.{or_parts, eqb-false, ltb-false, leb-false}
 use Rattle.std.proofs.lemmas.Option.{same_Some}
 use Rattle.tariff.specs.Meaning.{Meaning}
@@ -64,8 +64,11 @@ module _ {C : Type 0} (t : Lent C) where
 
 -- ---- a query that is not refused can be asked
 module _ (q : Query) (stops ride_room work_room : ℕ) where
-  pub not_none : query_refusal q stops ride_room work_room ≢ Some NoConnection
+  not_none : query_refusal q stops ride_room work_room ≢ Some NoConnection
   not_none = never_first (query_reasons q stops ride_room work_room) NoConnection ((λ e. cc), ((λ e. cc), ((λ e. cc), ((λ e. cc), tt))))
+
+  never_damaged : (reason : BookRefusal) → query_refusal q stops ride_room work_room ≢ Some (Book reason)
+  never_damaged reason = never_first (query_reasons q stops ride_room work_room) (Book reason) ((λ e. cc), ((λ e. cc), ((λ e. cc), ((λ e. cc), tt))))
 
   pub askable : query_refusal q stops ride_room work_room ≡ None → Askable q
   askable e =
@@ -84,32 +87,42 @@ module _ {Total C : Type 0} (t : Lent C) (m : Meaning Total) (runs : Pairs) (q :
   abbrev Kept : List Train → Result (Total × ℕ) Refusal → Type 0
   Kept trains r = Guarantee m (timetable_of trains runs) q ride_room work_room r rides
 
+  ok_same : (x y : Total × ℕ) → ◌≡◌ {A = Result (Total × ℕ) Refusal} (Ok x) (Ok y) → x ≡ y
+  ok_same x y p = cc
+
+  err_same : (x y : Refusal) → ◌≡◌ {A = Result (Total × ℕ) Refusal} (Err x) (Err y) → x ≡ y
+  err_same x y p = cc
+
+  not_both : (reason : Refusal) (r : Result (Total × ℕ) Refusal) → r ≡ Err reason → IsOk r → ⊥
+  not_both reason r a f = cc (ap is_ok (sym a) ∙ f)
+
   of_trains : (trains : List Train) (o : Option Refusal) → query_fault trains q ride_room work_room ≡ o → (r : Result (Total × ℕ) Refusal) → AnswersUnless m (timetable_of trains runs) q o r rides → Kept trains r
   of_trains trains (Some reason) e r a =
       record {
         cheapest = λ total count f. cc (sym a ∙ f);
-        none = λ f. let same : reason ≡ NoConnection = err_same reason NoConnection (sym a ∙ f) in absurd (not_none q (all_stops trains) ride_room work_room (e ∙ ap Some same));
-        says_none = λ f. cc (sym e ∙ f);
+        found = ((λ f. absurd (not_both reason r a f)), (λ h. cc (sym e ∙ h.0)));
+        none = ((λ f. absurd (not_none q (all_stops trains) ride_room work_room (is_reason NoConnection f))), (λ h. cc (sym e ∙ h.0)));
+        refused = λ other not_17. (is_reason other, (λ f. a ∙ ap Err (same_Some reason other (sym e ∙ f))));
+        undamaged = λ other f. never_damaged q (all_stops trains) ride_room work_room other (is_reason (Book other) f);
       }
     where
-      err_same : (x y : Refusal) → ◌≡◌ {A = Result (Total × ℕ) Refusal} (Err x) (Err y) → x ≡ y
-      err_same x y p = cc
-  of_trains trains None e (Ok found) a =
+      is_reason : (other : Refusal) → r ≡ Err other → query_fault trains q ride_room work_room ≡ Some other
+      is_reason other f = e ∙ ap Some (err_same reason other (sym a ∙ f))
+  of_trains trains None e (Ok answer) a =
       record {
-        cheapest = λ total count f.
-            let same : found ≡ (total, count) = ok_same found (total, count) f in
-            subst (λ (x : Total × ℕ). Finds m (timetable_of trains runs) q x.0 x.1 rides) same a;
-        none = λ f. cc f;
-        says_none = λ f no. absurd (no _ a.cheapest.connection);
+        cheapest = λ total count f. subst (λ (x : Total × ℕ). Finds m (timetable_of trains runs) q x.0 x.1 rides) (ok_same answer (total, count) f) a;
+        found = ((λ f. (e, (_, a.cheapest.connection))), (λ h. refl));
+        none = ((λ f. cc f), (λ h. absurd (h.1 _ a.cheapest.connection)));
+        refused = λ other not_17. ((λ f. cc f), (λ f. cc (sym e ∙ f)));
+        undamaged = λ other f. cc f;
       }
-    where
-      ok_same : (x y : Total × ℕ) → ◌≡◌ {A = Result (Total × ℕ) Refusal} (Ok x) (Ok y) → x ≡ y
-      ok_same x y p = cc
   of_trains trains None e (Err reason) a =
       record {
         cheapest = λ total count f. cc f;
-        none = λ f. (e, a.1);
-        says_none = λ f no. ap Err a.0;
+        found = ((λ f. absurd (not_both reason (Err reason) refl f)), (λ h. absurd (a.1 h.1.0 h.1.1)));
+        none = ((λ f. (e, a.1)), (λ h. ap Err a.0));
+        refused = λ other not_17. ((λ f. absurd (not_17 (sym (err_same reason other f) ∙ a.0))), (λ f. cc (sym e ∙ f)));
+        undamaged = λ other f. cc (sym (err_same reason (Book other) f) ∙ a.0);
       }
 
   -- over the tables, where the rows mean these trains

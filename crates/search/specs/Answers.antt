@@ -1,12 +1,14 @@
 -- What a search answers, and what it leaves in the ride list and the work table.
-use Rattle.std.specs.Prelude.{◌≡◌, ℕ, List, ◌++◌, length, take, drop, replicate, Some, None, Ok, Err, Option, Result}
+use Rattle.std.specs.Prelude.{◌≡◌, ◌≢◌, ◌↔◌, ℕ, List, ◌++◌, length, take, drop, replicate, Some, None, Ok, Err, Option, Result, IsOk}
 use Rattle.tariff.specs.Meaning.{Meaning}
 use Rattle.book.specs.Answers.{unless}
 use Rattle.book.specs.Histories.{History, Closed, LeadsOn}
 use Rattle.book.specs.PlainList.{Call, reads, in_force}
 use Rattle.book.specs.Trains.{listed}
+use Rattle.book.specs.declared.refusal.Refusal.{Refusal as BookRefusal}
 use Rattle.calendar.specs.Pairs.{Pairs}
 use Rattle.connection.specs.Cheapest.{Cheapest, HasNoConnection}
+use Rattle.connection.specs.Connections.{Connection}
 use Rattle.connection.specs.Timetable.{Timetable, timetable_of}
 use Rattle.connection.specs.declared.query.Query.{Query}
 use Rattle.connection.specs.declared.ride.Ride.{Ride}
@@ -14,7 +16,7 @@ use Rattle.search.specs.Records.{blank}
 use Rattle.search.specs.Refusals.{query_fault, search_refusal}
 use Rattle.search.specs.declared.record.WorkRecord.{WorkRecord}
 use Rattle.search.specs.declared.refusal.Refusal.{Refusal}
-use Rattle.search.specs.declared.refusal.Refusal.TheVariants.{NoConnection}
+use Rattle.search.specs.declared.refusal.Refusal.TheVariants.{Book, NoConnection}
 use Rattle.search.specs.declared.timetable.Timetable.{Timetable as Lent}
 
 module _ {Total : Type 0} (m : Meaning Total) (timetable : Timetable) (q : Query) where
@@ -35,13 +37,23 @@ module _ {Total : Type 0} (m : Meaning Total) (timetable : Timetable) (q : Query
   AnswersUnless None r rides = FoundOrNone r rides
 
   -- ---- the line that is sold, with a ride list and a work table of these lengths
-  pub record Guarantee (ride_room work_room : ℕ) (r : Result (Total × ℕ) Refusal) (rides : List Ride) : Type 0 where
-    -- an answer is the cheapest connection
-    pub cheapest : (total : Total) (count : ℕ) → r ≡ Ok (total, count) → Finds total count rides
-    -- if it says that there is none, there is none ..
-    pub none : r ≡ Err NoConnection → (query_fault timetable.trains q ride_room work_room ≡ None) × HasNoConnection timetable q
-    -- .. and if there is none, it says so
-    pub says_none : query_fault timetable.trains q ride_room work_room ≡ None → HasNoConnection timetable q → r ≡ Err NoConnection
+  module _ (ride_room work_room : ℕ) where
+    -- the first reason not to look for a connection, if one holds over these trains
+    abbrev fault : Option Refusal
+    fault = query_fault timetable.trains q ride_room work_room
+
+    -- a connection, "there is none" or that reason: each is answered exactly where it is so, and nothing else ever is
+    pub record Guarantee (r : Result (Total × ℕ) Refusal) (rides : List Ride) : Type 0 where
+      -- an answer is a cheapest connection ..
+      pub cheapest : (total : Total) (count : ℕ) → r ≡ Ok (total, count) → Finds total count rides
+      -- .. and there is one exactly where no reason holds and there is a connection
+      pub found : IsOk r ↔ ((fault ≡ None) × ((one : List Ride) × Connection timetable q one))
+      -- it says that there is none exactly where no reason holds and there is none
+      pub none : (r ≡ Err NoConnection) ↔ ((fault ≡ None) × HasNoConnection timetable q)
+      -- it gives any other reason exactly where that is the first that holds ..
+      pub refused : (reason : Refusal) → reason ≢ NoConnection → (r ≡ Err reason) ↔ (fault ≡ Some reason)
+      -- .. and never that the tables are damaged
+      pub undamaged : (reason : BookRefusal) → r ≢ Err (Book reason)
 
 -- ---- over what is lent
 module _ {C : Type 0} (t : Lent C) where
