@@ -1,7 +1,6 @@
 use Rattle.std.proofs.Common.{◌≡◌, List, ◌++◌, length, take, drop, sym, ap, ◌∙◌, subst, arith}
 use Rattle.std.proofs.lemmas.List.{take_all, take-append-le}
 use Rattle.search.specs.Answers.{Guarantee, in_force_after, work_left}
-use Rattle.search.specs.Refusals.{search_refusal}
 use Rattle.search.specs.declared.record.WorkRecord.{WorkRecord}
 use Rattle.search.proofs.BlankRecords.{left_blank}
 use Rattle.search.proofs.search_in.Goals as goal
@@ -13,8 +12,7 @@ returns-clause-work g c =
     let n = a.work.now.records.len in
     let lent = c.deref_mut.ensures.value in
     let long : length records ≡ n = ap length (sym lent) ∙ c.deref_mut.ensures.len in
-    let refusal = search_refusal a.timetable.now a.query (length a.rides.now) (length c.deref_mut.result.now) in
-    let left = c.search_over.ensures.work ∙ ap (work_left refusal) lent ∙ left_blank refusal records a.work.now.blank in
+    let left = c.search_over.ensures.work ∙ ap (work_left _) lent ∙ left_blank _ records a.work.now.blank in
     ap (λ w. take n (w ++ drop (length w) records)) left ∙ take-append-le n records (drop (length records) records) (omega (arith, long)) ∙ take_all n records (omega (arith, long))
 
 pub returns-clause-guarantee : goal.returns-clause-guarantee
