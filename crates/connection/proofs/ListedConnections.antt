@@ -124,6 +124,7 @@ pub list_tells : {Total : Type 0} (m : Meaning Total) → ListTells m
 list_tells m timetable q =
     record {
       each_is_one = λ rides c. All-contains (Connection timetable q) (connections timetable q) rides (all_connections timetable q) c;
+      each_is_listed = each_connection timetable q;
       none_is_missing = none_listed timetable q;
       none_is_cheaper = λ total t rides c. passes_in (λ other. m.at_most total (price m timetable q other)) (connections timetable q) rides (each_connection timetable q rides c) t;
     }

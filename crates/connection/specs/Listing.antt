@@ -72,10 +72,11 @@ module _ {Total : Type 0} (m : Meaning Total) where
   -- what it tells of one query
   pub record Tells (timetable : Timetable) (q : Query) : Type 0 where
     pub each_is_one : (rides : List Ride) → Contains (connections timetable q) rides → Connection timetable q rides
+    pub each_is_listed : (rides : List Ride) → Connection timetable q rides → Contains (connections timetable q) rides
     pub none_is_missing : connections timetable q ≡ [] → HasNoConnection timetable q
     pub none_is_cheaper : (total : Total) → T (at_most_each timetable q total) → (rides : List Ride) → Connection timetable q rides → T (m.at_most total (price m timetable q rides))
 
-  -- Of every query: each listed one is a connection; where none is listed, there is none; and a total that is at most the price of
-  -- each listed one is at most the price of every connection.
+  -- Of every query: each listed one is a connection, and each connection is listed; where none is listed, there is none; and a total
+  -- that is at most the price of each listed one is at most the price of every connection.
   abbrev pub ListTells : Type 0
   ListTells = (timetable : Timetable) (q : Query) → Tells timetable q
