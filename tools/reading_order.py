@@ -26,7 +26,7 @@ GROUPS = [
     ("The three tariffs", "crates/tariff/src/minutes.rt:new,total_of,output", "crates/tariff/src/fares.rt:total_of,output", "crates/tariff/src/waits.rt:total_of,output"),
     ("The three calendars, and dates", "crates/calendar/src/weekly.rt:runs", "crates/calendar/src/dated.rt:new,runs",
      "crates/calendar/src/exceptions/layer.rt:new,note,runs", "crates/calendar/src/date.rt:of,written,day,output", "crates/calendar/src/weekday.rt:of,output"),
-    ("The journeys at the edges", "crates/connection/src/edges.rt:edge_journeys_hold"),
+    ("The journeys at the edges", "crates/connection/src/edges.rt:edge_journeys_hold", "crates/search/src/edges.rt:edge_journeys_are_answered"),
     ("The text", "crates/text/src/reading.rt:read", "crates/text/src/writing.rt:write"),
     ("Refusals by their numbers and words", *(f"crates/{crate}/src/refusal.rt:number,output" for crate in ("tariff", "calendar", "book", "search", "text")),
      "crates/text/src/fault.rt:number,layer,output"),

@@ -5,6 +5,7 @@ mod BlankRecords
 mod Chaining
 mod CheapestEnd
 mod Chosen
+mod EdgeAnswers
 mod FillingLayers
 mod FillingRuns
 mod Guaranteed

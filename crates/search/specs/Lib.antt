@@ -1,6 +1,7 @@
 pub mod Answers
 pub mod Boarding
 pub mod Chains
+pub mod EdgeAnswers
 pub mod Ends
 pub mod Layers
 pub mod Limits

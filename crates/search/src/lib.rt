@@ -28,6 +28,7 @@ mod by_shift;
 mod chains;
 mod cheapest;
 mod choosing;
+pub mod edges;
 mod ends;
 mod inquiry;
 mod judging;
