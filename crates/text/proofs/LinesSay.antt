@@ -44,27 +44,20 @@ seven : (fs : List (List ℕ)) → length fs ≡ 7 → fs ≡ field 0 fs ∷ fie
 seven (a ∷ b ∷ c ∷ d ∷ f ∷ g ∷ h ∷ []) e = refl
 seven fs e = absurd (omega arith)
 
-module _ (fs : List (List ℕ)) (train code features station : ℕ) (arrive leave : Option ℕ) (depart : Option Departure) where
-  abbrev found : StopLine
-  found = record { number = train; code = code; features = features; stop = record { station = station; arrive = arrive; depart = depart } }
+-- what each of the fields says
+record Said (fs : List (List ℕ)) (l : StopLine) : Type 0 where
+  train : number end_of_16_bits (field 0 fs) ≡ Some l.number
+  code : number end_of_8_bits (field 1 fs) ≡ Some l.code
+  features : number end_of_16_bits (field 2 fs) ≡ Some l.features
+  station : number end_of_16_bits (field 3 fs) ≡ Some l.stop.station
+  arrive : time_if_any (field 4 fs) ≡ Some l.stop.arrive
+  minute : Option ℕ
+  leave : time_if_any (field 5 fs) ≡ Some minute
+  depart : departure minute (field 6 fs) ≡ Some l.stop.depart
 
-  found_back : length fs ≡ 7 → number end_of_16_bits (field 0 fs) ≡ Some train → number end_of_8_bits (field 1 fs) ≡ Some code → number end_of_16_bits (field 2 fs) ≡ Some features
-      → number end_of_16_bits (field 3 fs) ≡ Some station → time_if_any (field 4 fs) ≡ Some arrive → time_if_any (field 5 fs) ≡ Some leave
-      → departure leave (field 6 fs) ≡ Some depart → fs ≡ fields_of found
-  found_back n e0 e1 e2 e3 e4 e5 e6 =
-      let f0 = (number_back end_of_16_bits (field 0 fs) train e0).0 in
-      let f1 = (number_back end_of_8_bits (field 1 fs) code e1).0 in
-      let f2 = (number_back end_of_16_bits (field 2 fs) features e2).0 in
-      let f3 = (number_back end_of_16_bits (field 3 fs) station e3).0 in
-      let f4 = clock_back (field 4 fs) arrive e4 in
-      let f6 = fare_back leave (field 6 fs) depart e6 in
-      let f5 : field 5 fs ≡ clock_or_blank (leaves depart) = clock_back (field 5 fs) leave e5 ∙ ap clock_or_blank f6.1 in
-      let d = f6.0 in
-      seven fs n ∙ cc
-
-pub fields_back : (k : ℕ) (fs : List (List ℕ)) (l : StopLine) → length fs ≡ 7 → fields_say k fs ≡ Ok l → fs ≡ fields_of l
+said : (k : ℕ) (fs : List (List ℕ)) (l : StopLine) → fields_say k fs ≡ Ok l → Said fs l
 unfolding fields_say
-fields_back k fs l n e =
+said k fs l e =
     and_then_ok _ (number end_of_16_bits (field 0 fs)) _ l e (λ train e0 r0.
     and_then_ok _ (number end_of_8_bits (field 1 fs)) _ l r0 (λ code e1 r1.
     and_then_ok _ (number end_of_16_bits (field 2 fs)) _ l r1 (λ features e2 r2.
@@ -72,8 +65,22 @@ fields_back k fs l n e =
     and_then_ok _ (time_if_any (field 4 fs)) _ l r3 (λ arrive e4 r4.
     and_then_ok _ (time_if_any (field 5 fs)) _ l r4 (λ leave e5 r5.
     and_then_ok _ (departure leave (field 6 fs)) _ l r5 (λ depart e6 r6.
-    let same : found fs train code features station arrive leave depart ≡ l = cc in
-    subst (λ (x : StopLine). fs ≡ fields_of x) same (found_back fs train code features station arrive leave depart n e0 e1 e2 e3 e4 e5 e6))))))))
+    let found : StopLine = record { number = train; code = code; features = features; stop = record { station = station; arrive = arrive; depart = depart } } in
+    let same : found ≡ l = cc in
+    subst (Said fs) same (record { train = e0; code = e1; features = e2; station = e3; arrive = e4; minute = leave; leave = e5; depart = e6 }))))))))
+
+pub fields_back : (k : ℕ) (fs : List (List ℕ)) (l : StopLine) → length fs ≡ 7 → fields_say k fs ≡ Ok l → fs ≡ fields_of l
+fields_back k fs l n e =
+    let s = said k fs l e in
+    let f0 = (number_back end_of_16_bits (field 0 fs) l.number s.train).0 in
+    let f1 = (number_back end_of_8_bits (field 1 fs) l.code s.code).0 in
+    let f2 = (number_back end_of_16_bits (field 2 fs) l.features s.features).0 in
+    let f3 = (number_back end_of_16_bits (field 3 fs) l.stop.station s.station).0 in
+    let f4 = clock_back (field 4 fs) l.stop.arrive s.arrive in
+    let f6 = fare_back s.minute (field 6 fs) l.stop.depart s.depart in
+    let f5 : field 5 fs ≡ clock_or_blank (leaves l.stop.depart) = clock_back (field 5 fs) s.minute s.leave ∙ ap clock_or_blank f6.1 in
+    let d = f6.0 in
+    seven fs n ∙ cc
 
 pub says_back : (k : ℕ) (l : Line) (s : StopLine) → says k l ≡ Ok s → bytes_of l ≡ line_of s
 unfolding says line_of
@@ -93,6 +100,42 @@ pub record Fits (l : StopLine) : Type 0 where
   pub typed : Typed l
   pub arrives : OnClock l.stop.arrive
   pub leaves : OnClock (leaves l.stop.depart)
+
+-- what a line says can be written
+clock_fits : (bs : List ℕ) (o : Option ℕ) → time_if_any bs ≡ Some o → OnClock o
+clock_fits [] o e = let p : o ≡ None = cc in rw p tt
+clock_fits (b ∷ bs) o e = let p = map_parts Some (time (b ∷ bs)) o e in rw (← p.2) (time_back (b ∷ bs) p.0 p.1).1
+
+fare_fits : (o : Option ℕ) (bs : List ℕ) (d : Option Departure) → departure o bs ≡ Some d → (x : Departure) → d ≡ Some x → x.fare < end_of_16_bits
+fare_fits None [] d e x same = cc
+fare_fits None (b ∷ bs) d e x same = cc
+fare_fits (Some m) bs d e x same =
+    let p = map_parts (λ fare. Some (record { minute = m; fare = fare })) (number end_of_16_bits bs) d e in
+    let fare : p.0 ≡ x.fare = ap (λ (o : Option Departure). elim o [ Some d ↦ d.fare | None ↦ 0 ]) (p.2 ∙ same) in
+    subst (λ (n : ℕ). n < end_of_16_bits) fare (number_back end_of_16_bits bs p.0 p.1).1
+
+fields_fit : (k : ℕ) (fs : List (List ℕ)) (l : StopLine) → fields_say k fs ≡ Ok l → Fits l
+fields_fit k fs l e =
+    let s = said k fs l e in
+    record {
+      typed = record {
+        number = (number_back end_of_16_bits (field 0 fs) l.number s.train).1;
+        code = (number_back end_of_8_bits (field 1 fs) l.code s.code).1;
+        features = (number_back end_of_16_bits (field 2 fs) l.features s.features).1;
+        station = (number_back end_of_16_bits (field 3 fs) l.stop.station s.station).1;
+        fare = fare_fits s.minute (field 6 fs) l.stop.depart s.depart;
+      };
+      arrives = clock_fits (field 4 fs) l.stop.arrive s.arrive;
+      leaves = subst OnClock (fare_back s.minute (field 6 fs) l.stop.depart s.depart).1 (clock_fits (field 5 fs) s.minute s.leave);
+    }
+
+pub says_fits : (k : ℕ) (l : Line) (s : StopLine) → says k l ≡ Ok s → Fits s
+unfolding says
+says_fits k (cut_off l) s e = cc
+says_fits k (whole l) s e = at_test (eqb (length (fields l)) 7) e where
+  at_test : (t : Bool) → cond t (fields_say k (fields l)) (Err (malformed k 0)) ≡ Ok s → Fits s
+  at_test true e = fields_fit k (fields l) s e
+  at_test false e = cc
 
 clock_said : (o : Option ℕ) → OnClock o → time_if_any (clock_or_blank o) ≡ Some o
 clock_said None h = refl
