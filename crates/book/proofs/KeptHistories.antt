@@ -20,11 +20,11 @@ module _ (tr sr : ℕ) where
 
   pub kept : {cs : List Call} {st : State} {ts : List TrainRow} {ss : List StopRow} → History tr sr cs st ts ss → Kept tr sr (in_force tr sr cs) st ts ss
   kept (new ts ss p q) = subst₂ (λ (t s : ℕ). Kept t s (none_open []) (Closed new_book) ts ss) p q (new_kept ts ss)
-  kept (begin cs b ts ss n c x before) =
+  kept (begin cs b ts ss n c x typed before) =
       let k = kept before in
       one_more cs (begins n c x) (begun (begin_answer b ts ss n c x)) ts ss (length ts) (length ss) k.train_rows k.stop_rows
       (begin_kept (in_force tr sr cs) b ts ss n c x k.whole k.same)
-  kept (stop cs e ts ss s before) =
+  kept (stop cs e ts ss s typed before) =
       let k = kept before in
       one_more cs (stops s) (stopped (stop_answer e ts ss s)) ts (stop_rows e ts ss s) (length ts) (length ss) k.train_rows k.stop_rows
       (stop_kept e ts ss s (in_force tr sr cs) k.whole k.numbered k.same)
@@ -36,7 +36,7 @@ module _ (tr sr : ℕ) where
       let k = kept before in
       one_more cs abandons (Closed (abandon_answer e)) ts ss (length ts) (length ss) k.train_rows k.stop_rows
       (abandon_kept (in_force tr sr cs) e ts ss k.whole k.same)
-  kept (withdraw cs b ts ss n before) =
+  kept (withdraw cs b ts ss n typed before) =
       let k = kept before in
       one_more cs (withdraws n) (withdrawn_to (withdraw_answer b ts ss n)) (withdraw_trains b ts ss n) (withdraw_stops b ts ss n) (length ts) (length ss) k.train_rows k.stop_rows
       (withdraw_kept b ts ss n (in_force tr sr cs) k.whole k.same)

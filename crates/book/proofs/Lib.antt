@@ -19,5 +19,6 @@ pub mod RefusedBy
 mod Removed
 mod SoundIsRules
 mod StopOrder
+mod TypedTrains
 mod Walk
 mod Windows

@@ -3,10 +3,11 @@ use Rattle.std.specs.Prelude.{◌≡◌, ℕ, zero, suc, ◌<◌, ◌≤◌, ◌
 use Rattle.std.specs.List.{AllByRecursion}
 use Rattle.book.specs.Answers.{new_book, begin_answer, stop_answer, stop_rows, finish_answer, finish_rows, abandon_answer, withdraw_answer, withdraw_trains, withdraw_stops}
 use Rattle.book.specs.Limits.{most_trains, most_stops}
-use Rattle.book.specs.PlainList.{Call, begins, stops, finishes, abandons, withdraws, reads, InForce, in_force}
+use Rattle.book.specs.PlainList.{Call, begins, stops, finishes, abandons, withdraws, reads, CallTyped, InForce, in_force}
 use Rattle.book.specs.Refusals.{check_refusal, begin_fault, begin_refusal, next_fault, stop_refusal, finish_fault, finish_refusal, withdraw_fault, withdraw_refusal}
 use Rattle.book.specs.Rules.{Rules}
 use Rattle.book.specs.Trains.{Train, all_stops, open_train, meaning, entry_meaning}
+use Rattle.book.specs.Types.{TrainsTyped}
 use Rattle.book.specs.declared.refusal.Refused.{Refused}
 use Rattle.book.specs.declared.rows.StopRow.{StopRow}
 use Rattle.book.specs.declared.rows.TrainRow.{TrainRow}
@@ -35,18 +36,18 @@ withdrawn_to (Ok b) = Closed b
 withdrawn_to (Err r) = Closed r.back
 
 -- the calls, refused ones among them, lead from a new book over tables of these lengths to this state and these tables.
--- Each call takes the book or entry, and the tables, from the call ahead
+-- Each call takes the book or entry, and the tables, from the call ahead; its arguments are such as its types allow
 pub data History (train_room stop_room : ℕ) : List Call → State → List TrainRow → List StopRow → Type 0 where
   new : (ts : List TrainRow) (ss : List StopRow) → length ts ≡ train_room → length ss ≡ stop_room → History train_room stop_room [] (Closed new_book) ts ss
-  begin : (cs : List Call) (b : Book) (ts : List TrainRow) (ss : List StopRow) (n c f : ℕ) → History train_room stop_room cs (Closed b) ts ss
+  begin : (cs : List Call) (b : Book) (ts : List TrainRow) (ss : List StopRow) (n c f : ℕ) → CallTyped (begins n c f) → History train_room stop_room cs (Closed b) ts ss
       → History train_room stop_room (cs ++ (begins n c f ∷ [])) (begun (begin_answer b ts ss n c f)) ts ss
-  stop : (cs : List Call) (e : Entry) (ts : List TrainRow) (ss : List StopRow) (s : StopRow) → History train_room stop_room cs (Open e) ts ss
+  stop : (cs : List Call) (e : Entry) (ts : List TrainRow) (ss : List StopRow) (s : StopRow) → CallTyped (stops s) → History train_room stop_room cs (Open e) ts ss
       → History train_room stop_room (cs ++ (stops s ∷ [])) (stopped (stop_answer e ts ss s)) ts (stop_rows e ts ss s)
   finish : (cs : List Call) (e : Entry) (ts : List TrainRow) (ss : List StopRow) → History train_room stop_room cs (Open e) ts ss
       → History train_room stop_room (cs ++ (finishes ∷ [])) (finished (finish_answer e ts ss)) (finish_rows e ts ss) ss
   abandon : (cs : List Call) (e : Entry) (ts : List TrainRow) (ss : List StopRow) → History train_room stop_room cs (Open e) ts ss
       → History train_room stop_room (cs ++ (abandons ∷ [])) (Closed (abandon_answer e)) ts ss
-  withdraw : (cs : List Call) (b : Book) (ts : List TrainRow) (ss : List StopRow) (n : ℕ) → History train_room stop_room cs (Closed b) ts ss
+  withdraw : (cs : List Call) (b : Book) (ts : List TrainRow) (ss : List StopRow) (n : ℕ) → CallTyped (withdraws n) → History train_room stop_room cs (Closed b) ts ss
       → History train_room stop_room (cs ++ (withdraws n ∷ [])) (withdrawn_to (withdraw_answer b ts ss n)) (withdraw_trains b ts ss n) (withdraw_stops b ts ss n)
   read : (cs : List Call) (b : Book) (ts : List TrainRow) (ss : List StopRow) → History train_room stop_room cs (Closed b) ts ss
       → History train_room stop_room (cs ++ (reads ∷ [])) (Closed b) ts ss
@@ -90,6 +91,11 @@ pub record Lawful (ts : List Train) : Type 0 where
 abbrev pub EveryHistoryIsLawful : Type 0
 EveryHistoryIsLawful =
     (tr sr : ℕ) (calls : List Call) (st : State) (ts : List TrainRow) (ss : List StopRow) → History tr sr calls st ts ss → Lawful (in_force tr sr calls).trains
+
+-- each number in the trains in force fits its type: no fare is above 65,535 cents
+abbrev pub EveryHistoryIsTyped : Type 0
+EveryHistoryIsTyped =
+    (tr sr : ℕ) (calls : List Call) (st : State) (ts : List TrainRow) (ss : List StopRow) → History tr sr calls st ts ss → TrainsTyped (in_force tr sr calls).trains
 
 -- ---- that histories are about the real calls
 -- from any history before the call there is one after it, with what the call gave and left; and the rows hold the trains then in force

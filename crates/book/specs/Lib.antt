@@ -8,3 +8,4 @@ pub mod Room
 pub mod Rules
 pub mod Stops
 pub mod Trains
+pub mod Types

@@ -1,8 +1,9 @@
 -- The trains in force after any calls: a plain list that is told the two tables' lengths and each call, and sees no book, entry or table.
-use Rattle.std.specs.Prelude.{ℕ, cond, List, [], ◌∷◌, ◌++◌, Some, None, Option, ◌==◌}
+use Rattle.std.specs.Prelude.{ℕ, ◌≤◌, cond, List, [], ◌∷◌, ◌++◌, Some, None, Option, ◌==◌}
 use Rattle.book.specs.Answers.{unless}
 use Rattle.book.specs.Refusals.{begin_fault, next_fault, finish_fault, withdraw_fault}
 use Rattle.book.specs.Trains.{Train}
+use Rattle.book.specs.Types.{last_of_16_bits, StopTyped, TrainTyped}
 use Rattle.book.specs.declared.rows.StopRow.{StopRow}
 
 -- a call with its arguments
@@ -36,6 +37,15 @@ fresh n c f = record { number = n; code = c; features = f; stops = [] }
 
 abbrev pub lengthened : Train → StopRow → Train
 lengthened t s = record { number = t.number; code = t.code; features = t.features; stops = t.stops ++ (s ∷ []) }
+
+-- what the types of a call's arguments say of them. A train that begins has no stop yet
+abbrev pub CallTyped : Call → Type 0
+CallTyped (begins n c f) = TrainTyped (fresh n c f)
+CallTyped (stops s) = StopTyped s
+CallTyped finishes = Unit {0}
+CallTyped abandons = Unit {0}
+CallTyped (withdraws n) = n ≤ last_of_16_bits
+CallTyped reads = Unit {0}
 
 -- one call. One that is refused, or that book or entry does not allow, changes nothing
 abbrev pub advance : (train_room stop_room : ℕ) → List Train → Option Train → Call → InForce

@@ -70,6 +70,7 @@ impl Entry {
             arrive,
             depart,
         };
+        next.fits_types();
         match self.may_stop(trains, stops, next) {
             Ok(()) => Ok(self.with_stop(stops, next)),
             Err(refusal) => Err(Refused {

@@ -29,4 +29,5 @@ pub mod rows;
 mod rules;
 pub mod state;
 mod tables;
+mod types;
 pub mod withdrawing;

@@ -27,6 +27,7 @@ use Rattle.text.specs.declared.stage.Stage.TheVariants.{Between, Inside}
 use Rattle.text.specs.declared.stop_line.StopLine.{StopLine}
 use Rattle.book.proofs.FirstReason.{none_holds, no_reason, none_of_both}
 use Rattle.text.proofs.AlongCalls.{At, open_at, begin_same, stop_same, finish_same, begin_on, stop_on, finish_on, entered, wrote, closed, rowed}
+use Rattle.text.proofs.CallsTyped.{calls_typed}
 use Rattle.text.proofs.LinesAndFields.{lines_more}
 use Rattle.text.proofs.LinesSay.{Fits, says_written, line_high}
 
@@ -120,7 +121,7 @@ module _ (every : EveryHistoryHolds) (agrees : EveryRefusalAgrees) (tr sr : ℕ)
       stops_on k = ap (λ (o : Option Refusal). after_stop k (is_some s.depart) (refused_or o e (longer e)) ts (unless o ss (wrote ss e s))) passes
 
       at_on : At tr sr (with_open us (lengthened t s)) (Open (longer e)) ts (wrote ss e s)
-      at_on = stop_on every agrees tr sr ts ss us t e s a passes
+      at_on = stop_on every agrees tr sr ts ss us t e s a (calls_typed (stop_of t s) l.fits.0).stop passes
 
     same_open : (t : Train) (e : Entry) (s : StopRow) (ts : List TrainRow) (ss : List StopRow) → At tr sr (with_open us t) (Open e) ts ss → same_train e (stop_of t s) ≡ true
     same_open t e s ts ss a =
@@ -185,7 +186,7 @@ module _ (every : EveryHistoryHolds) (agrees : EveryRefusalAgrees) (tr sr : ℕ)
       (ap (λ (y : List ℕ). reading k (lines y) (Between b) ts ss) (append_assoc (line_of v) (flat_map f todo) more)
       ∙ line_step k (Between b) ts ss v rest l.fits.0
       ∙ ap (λ (o : Option Refusal). on (suc k) (after_begin (suc k) s (refused_or o b (entered b n c x)) ts ss) (lines rest)) none)
-      (stopping_read us todo s (suc k) (fresh n c x) (entered b n c x) ts ss more (begin_on every agrees tr sr ts ss us b n c x a none) l)
+      (stopping_read us todo s (suc k) (fresh n c x) (entered b n c x) ts ss more (begin_on every agrees tr sr ts ss us b n c x a (calls_typed v l.fits.0).begin none) l)
 
   train_read : (us : List Train) (t : Train) (others : ℕ) (k : ℕ) (b : Book) (ts : List TrainRow) (ss : List StopRow) (more : List ℕ) (trains : ℕ)
       → At tr sr (none_open us) (Closed b) ts ss → Ready us t → Room us (suc trains) (length t.stops + others)

@@ -2,7 +2,7 @@
 use Rattle.std.proofs.Common.{◌≡◌, ℕ, ◌+◌, List, [], ◌∷◌, ◌++◌, set, false, Some, None, Option, sym, refl, ap, ◌∙◌, subst}
 use Rattle.book.specs.Answers.{refused_or, unless, longer, finished_row}
 use Rattle.book.specs.Histories.{State, Closed, Open, begun, stopped, finished, History, begin, stop, finish, RowsHold, EveryHistoryHolds, RefusalsAgree, EveryRefusalAgrees}
-use Rattle.book.specs.PlainList.{Call, begins, stops, finishes, InForce, none_open, with_open, fresh, lengthened, advance, after, in_force}
+use Rattle.book.specs.PlainList.{Call, begins, stops, finishes, CallTyped, InForce, none_open, with_open, fresh, lengthened, advance, after, in_force}
 use Rattle.book.specs.Refusals.{begin_fault, next_fault, finish_fault, check_refusal, begin_refusal, stop_refusal, finish_refusal}
 use Rattle.book.specs.Trains.{Train, open_train, meaning}
 use Rattle.book.specs.declared.refusal.Refusal.{Refusal}
@@ -63,21 +63,21 @@ module _ (every : EveryHistoryHolds) (agrees : EveryRefusalAgrees) (tr sr : ℕ)
   force_on : (f g : InForce) (st : State) (a : At tr sr f st ts ss) (c : Call) → advance tr sr f.trains f.opened c ≡ g → in_force tr sr (a.calls ++ (c ∷ [])) ≡ g
   force_on f g st a c e = after_one_more tr sr (none_open []) a.calls c ∙ ap (λ (x : InForce). advance tr sr x.trains x.opened c) a.force ∙ e
 
-  pub begin_on : (us : List Train) (b : Book) (n c x : ℕ) → At tr sr (none_open us) (Closed b) ts ss → begin_refusal b ts ss n ≡ None
+  pub begin_on : (us : List Train) (b : Book) (n c x : ℕ) → At tr sr (none_open us) (Closed b) ts ss → CallTyped (begins n c x) → begin_refusal b ts ss n ≡ None
       → At tr sr (with_open us (fresh n c x)) (Open (entered b n c x)) ts ss
-  begin_on us b n c x a none =
+  begin_on us b n c x a typed none =
       record {
         calls = a.calls ++ (begins n c x ∷ []);
-        history = subst (λ (o : Option Refusal). History tr sr (a.calls ++ (begins n c x ∷ [])) (begun (refused_or o b (entered b n c x))) ts ss) none (begin a.calls b ts ss n c x a.history);
+        history = subst (λ (o : Option Refusal). History tr sr (a.calls ++ (begins n c x ∷ [])) (begun (refused_or o b (entered b n c x))) ts ss) none (begin a.calls b ts ss n c x typed a.history);
         force = force_on _ _ _ a (begins n c x) (ap (λ (o : Option Refusal). unless o (none_open us) (with_open us (fresh n c x))) (sym (begin_same us b n a) ∙ none));
       }
 
-  pub stop_on : (us : List Train) (t : Train) (e : Entry) (s : StopRow) → At tr sr (with_open us t) (Open e) ts ss → stop_refusal e ts ss s ≡ None
+  pub stop_on : (us : List Train) (t : Train) (e : Entry) (s : StopRow) → At tr sr (with_open us t) (Open e) ts ss → CallTyped (stops s) → stop_refusal e ts ss s ≡ None
       → At tr sr (with_open us (lengthened t s)) (Open (longer e)) ts (wrote ss e s)
-  stop_on us t e s a none =
+  stop_on us t e s a typed none =
       record {
         calls = a.calls ++ (stops s ∷ []);
-        history = subst (λ (o : Option Refusal). History tr sr (a.calls ++ (stops s ∷ [])) (stopped (refused_or o e (longer e))) ts (unless o ss (wrote ss e s))) none (stop a.calls e ts ss s a.history);
+        history = subst (λ (o : Option Refusal). History tr sr (a.calls ++ (stops s ∷ [])) (stopped (refused_or o e (longer e))) ts (unless o ss (wrote ss e s))) none (stop a.calls e ts ss s typed a.history);
         force = force_on _ _ _ a (stops s) (ap (λ (o : Option Refusal). unless o (with_open us t) (with_open us (lengthened t s))) (sym (stop_same us t e s a) ∙ none));
       }
 

@@ -7,7 +7,7 @@ use Rattle.std.proofs.lemmas.List.{append-nil}
 use Rattle.std.proofs.lemmas.Slice.Eq.{bytes_eq-Decides}
 use Rattle.book.specs.Answers.{refused_or, unless, longer, abandon_answer}
 use Rattle.book.specs.Histories.{Closed, Open, EveryHistoryHolds, EveryRefusalAgrees}
-use Rattle.book.specs.PlainList.{none_open, with_open, fresh, lengthened}
+use Rattle.book.specs.PlainList.{stops, CallTyped, none_open, with_open, fresh, lengthened}
 use Rattle.book.specs.Refusals.{check_refusal, begin_refusal, stop_refusal, finish_refusal}
 use Rattle.book.specs.Trains.{Train, open_train}
 use Rattle.book.specs.declared.refusal.Refusal.{Refusal}
@@ -26,6 +26,7 @@ use Rattle.text.specs.declared.stage.Stage.{Stage}
 use Rattle.text.specs.declared.stage.Stage.TheVariants.{Between, Inside}
 use Rattle.text.specs.declared.stop_line.StopLine.{StopLine}
 use Rattle.text.proofs.AlongCalls.{At, open_at, begin_on, stop_on, finish_on, entered, wrote, closed, rowed}
+use Rattle.text.proofs.CallsTyped.{CallsTyped, says_typed}
 use Rattle.text.proofs.LinesAndFields.{bytes_of, lines_joined}
 use Rattle.text.proofs.LinesSay.{says_back}
 
@@ -81,29 +82,29 @@ module _ (every : EveryHistoryHolds) (agrees : EveryRefusalAgrees) (tr sr : ℕ)
   refused_stop k done e r ts ss false = tt
 
   stop_cases : (k : ℕ) (done : List ℕ) (new : List Train) (t : Train) (e : Entry) (s : StopRow) (ts : List TrainRow) (ss : List StopRow) (o : Option Refusal) → stop_refusal e ts ss s ≡ o
-      → At tr sr (with_open (old ++ new) t) (Open e) ts ss → done ≡ flat_map lines_of new ++ lines_of t
+      → At tr sr (with_open (old ++ new) t) (Open e) ts ss → done ≡ flat_map lines_of new ++ lines_of t → CallTyped (stops s)
       → GotPart (done ++ line_of (stop_of t s)) (after_stop k (is_some s.depart) (refused_or o e (longer e)) ts (unless o ss (wrote ss e s)))
-  stop_cases k done new t e s ts ss (Some r) refused a bytes = refused_stop k (done ++ line_of (stop_of t s)) e r ts ss (is_some s.depart)
-  stop_cases k done new t e s ts ss None none a bytes =
-      more_cases k _ new (lengthened t s) (longer e) ts (wrote ss e s) (is_some s.depart) (stop_on every agrees tr sr ts ss (old ++ new) t e s a none)
+  stop_cases k done new t e s ts ss (Some r) refused a bytes typed = refused_stop k (done ++ line_of (stop_of t s)) e r ts ss (is_some s.depart)
+  stop_cases k done new t e s ts ss None none a bytes typed =
+      more_cases k _ new (lengthened t s) (longer e) ts (wrote ss e s) (is_some s.depart) (stop_on every agrees tr sr ts ss (old ++ new) t e s a typed none)
       (ap (λ (x : List ℕ). x ++ line_of (stop_of t s)) bytes ∙ append_assoc (flat_map lines_of new) (lines_of t) _
       ∙ ap (λ (x : List ℕ). flat_map lines_of new ++ x) (sym (lines_of_more t s)))
 
   stopping_got : (k : ℕ) (done : List ℕ) (new : List Train) (t : Train) (e : Entry) (l : StopLine) (ts : List TrainRow) (ss : List StopRow)
-      → At tr sr (with_open (old ++ new) t) (Open e) ts ss → done ≡ flat_map lines_of new ++ lines_of t → stop_of t l.stop ≡ l
+      → At tr sr (with_open (old ++ new) t) (Open e) ts ss → done ≡ flat_map lines_of new ++ lines_of t → stop_of t l.stop ≡ l → CallsTyped l
       → GotPart (done ++ line_of l) (stopping k l.stop e ts ss)
-  stopping_got k done new t e l ts ss a bytes same =
+  stopping_got k done new t e l ts ss a bytes same typed =
       subst (λ (x : StopLine). GotPart (done ++ line_of x) (stopping k l.stop e ts ss)) same
-      (stop_cases k done new t e l.stop ts ss (stop_refusal e ts ss l.stop) refl a bytes)
+      (stop_cases k done new t e l.stop ts ss (stop_refusal e ts ss l.stop) refl a bytes typed.stop)
 
   -- ---- begin
   begin_cases : (k : ℕ) (done : List ℕ) (new : List Train) (b : Book) (l : StopLine) (ts : List TrainRow) (ss : List StopRow) (o : Option Refusal) → begin_refusal b ts ss l.number ≡ o
-      → At tr sr (none_open (old ++ new)) (Closed b) ts ss → done ≡ flat_map lines_of new
+      → At tr sr (none_open (old ++ new)) (Closed b) ts ss → done ≡ flat_map lines_of new → CallsTyped l
       → GotPart (done ++ line_of l) (after_begin k l.stop (refused_or o b (entered b l.number l.code l.features)) ts ss)
-  begin_cases k done new b l ts ss (Some r) refused a bytes = tt
-  begin_cases k done new b l ts ss None none a bytes =
-      stopping_got k done new (fresh l.number l.code l.features) _ l ts ss (begin_on every agrees tr sr ts ss (old ++ new) b l.number l.code l.features a none)
-      (bytes ∙ sym (append-nil (flat_map lines_of new))) refl
+  begin_cases k done new b l ts ss (Some r) refused a bytes typed = tt
+  begin_cases k done new b l ts ss None none a bytes typed =
+      stopping_got k done new (fresh l.number l.code l.features) _ l ts ss (begin_on every agrees tr sr ts ss (old ++ new) b l.number l.code l.features a typed.begin none)
+      (bytes ∙ sym (append-nil (flat_map lines_of new))) refl typed
 
   same_line : (e : Entry) (t : Train) (ss : List StopRow) (l : StopLine) → open_train e ss ≡ t → same_train e l ≡ true → stop_of t l.stop ≡ l
   same_line e t ss l o h =
@@ -112,22 +113,22 @@ module _ (every : EveryHistoryHolds) (agrees : EveryRefusalAgrees) (tr sr : ℕ)
       let x : l.features ≡ e.features = grind (arith, nat_tests) in
       ap (λ (u : Train). stop_of u l.stop) (sym o) ∙ rw (← n, ← c, ← x) refl
 
-  same_cases : (k : ℕ) (done : List ℕ) (e : Entry) (l : StopLine) (ts : List TrainRow) (ss : List StopRow) (d : Bool) → same_train e l ≡ d → GotEntry done e ts ss
+  same_cases : (k : ℕ) (done : List ℕ) (e : Entry) (l : StopLine) (ts : List TrainRow) (ss : List StopRow) (d : Bool) → same_train e l ≡ d → GotEntry done e ts ss → CallsTyped l
       → GotPart (done ++ line_of l) (cond d (stopping k l.stop e ts ss) (left (Err (misread (abandon_answer e) (differs k))) ts ss))
-  same_cases k done e l ts ss true h g =
-      stopping_got k done g.new g.last e l ts ss g.at g.bytes (same_line e g.last ss l (open_at every agrees tr sr ts ss (old ++ g.new) g.last e g.at) h)
-  same_cases k done e l ts ss false h g = tt
+  same_cases k done e l ts ss true h g typed =
+      stopping_got k done g.new g.last e l ts ss g.at g.bytes (same_line e g.last ss l (open_at every agrees tr sr ts ss (old ++ g.new) g.last e g.at) h) typed
+  same_cases k done e l ts ss false h g typed = tt
 
-  taking_got : (k : ℕ) (done : List ℕ) (st : Stage) (l : StopLine) (ts : List TrainRow) (ss : List StopRow) → Got done (Ok st) ts ss → GotPart (done ++ line_of l) (taking k l st ts ss)
-  taking_got k done (Between b) l ts ss g = begin_cases k done g.new b l ts ss (begin_refusal b ts ss l.number) refl g.at g.bytes
-  taking_got k done (Inside e) l ts ss g = same_cases k done e l ts ss (same_train e l) refl g
+  taking_got : (k : ℕ) (done : List ℕ) (st : Stage) (l : StopLine) (ts : List TrainRow) (ss : List StopRow) → Got done (Ok st) ts ss → CallsTyped l → GotPart (done ++ line_of l) (taking k l st ts ss)
+  taking_got k done (Between b) l ts ss g typed = begin_cases k done g.new b l ts ss (begin_refusal b ts ss l.number) refl g.at g.bytes typed
+  taking_got k done (Inside e) l ts ss g typed = same_cases k done e l ts ss (same_train e l) refl g typed
 
   -- ---- line after line
   saying_got : (k : ℕ) (done : List ℕ) (st : Stage) (ts : List TrainRow) (ss : List StopRow) (l : Line) (r : Result StopLine Fault) → says k l ≡ r → Got done (Ok st) ts ss
       → GotPart (done ++ bytes_of l) (after_saying k r st ts ss)
   saying_got k done st ts ss l (Err f) e g = tt
   saying_got k done st ts ss l (Ok s) e g =
-      subst (λ (x : List ℕ). GotPart (done ++ x) (taking k s st ts ss)) (sym (says_back k l s e)) (taking_got k done st s ts ss g)
+      subst (λ (x : List ℕ). GotPart (done ++ x) (taking k s st ts ss)) (sym (says_back k l s e)) (taking_got k done st s ts ss g (says_typed k l s e))
 
   -- a text that is accepted from here on
   abbrev Whole : List ℕ → Result Book Misread → List TrainRow → List StopRow → Type 0

@@ -1,6 +1,7 @@
 mod Accepted
 mod AlongCalls
 mod Brought
+mod CallsTyped
 mod ClockDigits
 mod Cuts
 mod Decimals

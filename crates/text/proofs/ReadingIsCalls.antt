@@ -1,9 +1,9 @@
 -- Reading a text makes calls on the book: they lead from any history ahead of it to the book and the tables that it leaves.
-use Rattle.std.proofs.Common.{ℕ, suc, Bool, true, false, cond, List, [], ◌∷◌, ◌++◌, is_some, Some, None, Ok, Err, Option, Result, sym, subst, append_assoc}
+use Rattle.std.proofs.Common.{◌≡◌, ℕ, suc, Bool, true, false, cond, List, [], ◌∷◌, ◌++◌, is_some, Some, None, Ok, Err, Option, Result, sym, refl, subst, append_assoc}
 use Rattle.std.proofs.lemmas.List.{append-nil}
 use Rattle.book.specs.Answers.{begin_answer, stop_answer, finish_answer, abandon_answer}
 use Rattle.book.specs.Histories.{State, Closed, Open, begun, stopped, finished, History, begin, stop, finish, abandon}
-use Rattle.book.specs.PlainList.{Call, begins, stops, finishes, abandons}
+use Rattle.book.specs.PlainList.{Call, begins, stops, finishes, abandons, CallTyped}
 use Rattle.book.specs.Refusals.{check_refusal}
 use Rattle.book.specs.declared.refusal.Refusal.{Refusal}
 use Rattle.book.specs.declared.refusal.Refused.{Refused}
@@ -21,6 +21,7 @@ use Rattle.text.specs.declared.fault.Misread.{Misread}
 use Rattle.text.specs.declared.stage.Stage.{Stage}
 use Rattle.text.specs.declared.stage.Stage.TheVariants.{Between, Inside}
 use Rattle.text.specs.declared.stop_line.StopLine.{StopLine}
+use Rattle.text.proofs.CallsTyped.{CallsTyped, says_typed}
 
 -- the book or the entry that a part leaves
 abbrev state_of : Stage → State
@@ -61,20 +62,20 @@ module _ (tr sr : ℕ) (calls : List Call) where
   after_stop_led k false (Ok e) ts ss d = finishing_led k e ts ss d
   after_stop_led k more (Err r) ts ss d = abandon_led r.back ts ss d
 
-  stopping_led : (k : ℕ) (s : StopRow) (e : Entry) (ts : List TrainRow) (ss : List StopRow) → Led (Open e) ts ss → LedToStage (stopping k s e ts ss)
-  stopping_led k s e ts ss d = after_stop_led k (is_some s.depart) (stop_answer e ts ss s) ts _ (one_more d.0 (stops s) _ ts _ (stop (calls ++ d.0) e ts ss s d.1))
+  stopping_led : (k : ℕ) (s : StopRow) (e : Entry) (ts : List TrainRow) (ss : List StopRow) → CallTyped (stops s) → Led (Open e) ts ss → LedToStage (stopping k s e ts ss)
+  stopping_led k s e ts ss typed d = after_stop_led k (is_some s.depart) (stop_answer e ts ss s) ts _ (one_more d.0 (stops s) _ ts _ (stop (calls ++ d.0) e ts ss s typed d.1))
 
-  after_begin_led : (k : ℕ) (s : StopRow) (r : Result Entry (Refused Book)) (ts : List TrainRow) (ss : List StopRow) → Led (begun r) ts ss → LedToStage (after_begin k s r ts ss)
-  after_begin_led k s (Ok e) ts ss d = stopping_led k s e ts ss d
-  after_begin_led k s (Err r) ts ss d = d
+  after_begin_led : (k : ℕ) (s : StopRow) (r : Result Entry (Refused Book)) (ts : List TrainRow) (ss : List StopRow) → CallTyped (stops s) → Led (begun r) ts ss → LedToStage (after_begin k s r ts ss)
+  after_begin_led k s (Ok e) ts ss typed d = stopping_led k s e ts ss typed d
+  after_begin_led k s (Err r) ts ss typed d = d
 
-  taking_led : (k : ℕ) (l : StopLine) (st : Stage) (ts : List TrainRow) (ss : List StopRow) → Led (state_of st) ts ss → LedToStage (taking k l st ts ss)
-  taking_led k l (Between b) ts ss d =
-      after_begin_led k l.stop (begin_answer b ts ss l.number l.code l.features) ts ss
-      (one_more d.0 (begins l.number l.code l.features) _ ts ss (begin (calls ++ d.0) b ts ss l.number l.code l.features d.1))
-  taking_led k l (Inside e) ts ss d = at_test (same_train e l) where
+  taking_led : (k : ℕ) (l : StopLine) (st : Stage) (ts : List TrainRow) (ss : List StopRow) → CallsTyped l → Led (state_of st) ts ss → LedToStage (taking k l st ts ss)
+  taking_led k l (Between b) ts ss typed d =
+      after_begin_led k l.stop (begin_answer b ts ss l.number l.code l.features) ts ss typed.stop
+      (one_more d.0 (begins l.number l.code l.features) _ ts ss (begin (calls ++ d.0) b ts ss l.number l.code l.features typed.begin d.1))
+  taking_led k l (Inside e) ts ss typed d = at_test (same_train e l) where
     at_test : (t : Bool) → LedToStage (cond t (stopping k l.stop e ts ss) (left (Err (misread (abandon_answer e) (differs k))) ts ss))
-    at_test true = stopping_led k l.stop e ts ss d
+    at_test true = stopping_led k l.stop e ts ss typed.stop d
     at_test false = abandon_led e ts ss d
 
   -- ---- line after line
@@ -82,9 +83,9 @@ module _ (tr sr : ℕ) (calls : List Call) where
   book_led (Between b) ts ss d = d
   book_led (Inside e) ts ss d = abandon_led e ts ss d
 
-  after_saying_led : (k : ℕ) (r : Result StopLine Fault) (st : Stage) (ts : List TrainRow) (ss : List StopRow) → Led (state_of st) ts ss → LedToStage (after_saying k r st ts ss)
-  after_saying_led k (Ok l) st ts ss d = taking_led k l st ts ss d
-  after_saying_led k (Err f) st ts ss d = book_led st ts ss d
+  after_saying_led : (k : ℕ) (r : Result StopLine Fault) (st : Stage) (ts : List TrainRow) (ss : List StopRow) → ((l : StopLine) → r ≡ Ok l → CallsTyped l) → Led (state_of st) ts ss → LedToStage (after_saying k r st ts ss)
+  after_saying_led k (Ok l) st ts ss typed d = taking_led k l st ts ss (typed l refl) d
+  after_saying_led k (Err f) st ts ss typed d = book_led st ts ss d
 
   ending_led : (k : ℕ) (st : Stage) (ts : List TrainRow) (ss : List StopRow) → Led (state_of st) ts ss → Led (Closed (book_left (ending k st))) ts ss
   ending_led k (Between b) ts ss d = d
@@ -98,7 +99,7 @@ module _ (tr sr : ℕ) (calls : List Call) where
   reading_led : (k : ℕ) (ls : List Line) (st : Stage) (ts : List TrainRow) (ss : List StopRow) → Led (state_of st) ts ss → LedToBook (reading k ls st ts ss)
   reading_led k [] st ts ss d = ending_led k st ts ss d
   reading_led k (l ∷ ls) st ts ss d =
-      then_led _ _ _ (reading (suc k) ls) (λ st' d'. reading_led (suc k) ls st' _ _ d') (after_saying_led (suc k) (says (suc k) l) st ts ss d)
+      then_led _ _ _ (reading (suc k) ls) (λ st' d'. reading_led (suc k) ls st' _ _ d') (after_saying_led (suc k) (says (suc k) l) st ts ss (says_typed (suc k) l) d)
 
   -- ---- a whole text
   module _ (b : Book) (ts : List TrainRow) (ss : List StopRow) (d : Led (Closed b) ts ss) where

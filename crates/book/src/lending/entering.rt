@@ -100,6 +100,7 @@ impl LentTables<'_, '_> {
             arrive,
             depart,
         };
+        next.fits_types();
         match self.may_stop(&entry, next) {
             Ok(()) => {
                 let stops = &mut *self.stops;

@@ -26,7 +26,7 @@ returns-in-Ok-clause-history c =
     let e = not_refused _ c.in-Ok.ensures.answer in
     let a = c.args in
     rw c.may_stop.ensures.trains_unchanged
-    (stop_continued a.self.now.trains.now a.self.now.stops.now a.entry (row a.station a.arrive a.depart) (Ok c.with_stop-entry.result) c.with_stop-entry.new.stops (search rules) (search rules)).history
+    (stop_continued a.self.now.trains.now a.self.now.stops.now a.entry (row a.station a.arrive a.depart) (Ok c.with_stop-entry.result) c.with_stop-entry.new.stops c.fits_types.ensures (search rules) (search rules)).history
 
 pub returns-in-Err-clause-history : goal.returns-in-Err-clause-history
 returns-in-Err-clause-history c =
@@ -34,4 +34,4 @@ returns-in-Err-clause-history c =
     let a = c.args in
     rw c.may_stop.ensures.trains_unchanged
     (stop_continued a.self.now.trains.now a.self.now.stops.now a.entry (row a.station a.arrive a.depart) (Err (record { back = a.entry; refusal = c.in-Err.refusal })) c.may_stop.new.self.stops.now
-    (search rules) (search rules)).history
+    c.fits_types.ensures (search rules) (search rules)).history

@@ -27,9 +27,9 @@ overflow_sub-result-in-Ok c = let f = found _ _ _ _ _ c.in-Ok.ensures in omega (
 pub returns-in-Ok : goal.returns-in-Ok
 returns-in-Ok c =
     let e = given _ _ _ c.in-Ok.ensures in
-    withdraw_continued _ _ _ _ _ _ _ (search rules) (search rules) (search rules)
+    withdraw_continued _ _ _ _ _ _ _ (omega arith) (search rules) (search rules) (search rules)
 
 pub returns-in-Err : goal.returns-in-Err
 returns-in-Err c =
     let e = withheld_by _ _ _ c.in-Err.ensures in
-    withdraw_continued _ _ _ _ _ _ _ (search rules) (search rules) (search rules)
+    withdraw_continued _ _ _ _ _ _ _ (omega arith) (search rules) (search rules) (search rules)

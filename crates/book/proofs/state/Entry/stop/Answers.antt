@@ -8,7 +8,7 @@ pub with_stop-requires : goal.with_stop-requires
 with_stop-requires c = let p = stop_passed _ _ _ _ (not_refused _ c.in-Ok.ensures) in record { few = p.1; fit = p.3 }
 
 pub returns-in-Ok : goal.returns-in-Ok
-returns-in-Ok c = let e = not_refused _ c.in-Ok.ensures in stop_continued _ _ _ _ _ _ (search rules) (search rules)
+returns-in-Ok c = let e = not_refused _ c.in-Ok.ensures in stop_continued _ _ _ _ _ _ c.fits_types.ensures (search rules) (search rules)
 
 pub returns-in-Err : goal.returns-in-Err
-returns-in-Err c = let e = refused_by _ _ c.in-Err.ensures in stop_continued _ _ _ _ _ _ (search rules) (search rules)
+returns-in-Err c = let e = refused_by _ _ c.in-Err.ensures in stop_continued _ _ _ _ _ _ c.fits_types.ensures (search rules) (search rules)
