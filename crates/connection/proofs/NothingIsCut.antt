@@ -1,18 +1,22 @@
 -- No stretch is longer, or dearer, than a step can hold.
-use Rattle.std.proofs.Common.{◌≡◌, ℕ, zero, suc, ◌+◌, ◌<◌, ◌≤◌, List, [], ◌∷◌, ◌++◌, length, take, drop, Some, None, Option, refl, arith}
+use Rattle.std.proofs.Common.{◌≡◌, ℕ, zero, suc, ◌+◌, ◌<◌, ◌≤◌, List, [], ◌∷◌, ◌++◌, length, take, drop, Some, None, Option, IfSome, refl, arith}
 use Rattle.std.specs.List.{AllByRecursion}
+use Rattle.std.proofs.ByRecursion.{All-weaker}
 use Rattle.tariff.specs.declared.step.Kind.{Kind}
 use Rattle.tariff.specs.declared.step.Kind.TheVariants.{Start, Change}
+use Rattle.book.specs.Histories.{EveryHistoryIsLawful, EveryHistoryIsTyped}
 use Rattle.book.specs.Limits.{last_minute}
+use Rattle.book.specs.PlainList.{in_force}
 use Rattle.book.specs.Rules.{Rules, stop_at}
 use Rattle.book.specs.Trains.{Train}
+use Rattle.book.specs.Types.{DepartureTyped, StopTyped, TrainTyped, TrainsTyped}
 use Rattle.book.specs.declared.rows.Departure.{Departure}
 use Rattle.book.specs.declared.rows.StopRow.{StopRow}
 use Rattle.connection.specs.Clock.{ready}
 use Rattle.connection.specs.Prices.{over, stops_of, stretches_from}
 use Rattle.connection.specs.Rides.{arrival, departure, fare_on, stops_at, arrives}
-use Rattle.connection.specs.Timetable.{Timetable}
-use Rattle.connection.specs.Whole.{KeepTheRules, HaveFares, Whole, NothingIsCut}
+use Rattle.connection.specs.Timetable.{Timetable, timetable_of}
+use Rattle.connection.specs.Whole.{KeepTheRules, HaveFares, Whole, NothingIsCut, NothingIsCutInForce}
 use Rattle.connection.specs.declared.query.Query.{Query}
 use Rattle.connection.specs.declared.ride.Ride.{Ride}
 use Rattle.connection.proofs.FewSteps.{midnight_by}
@@ -92,3 +96,18 @@ module _ (timetable : Timetable) (q : Query) (small : (n : ℕ) → AllByRecursi
 
 pub nothing_is_cut : NothingIsCut
 nothing_is_cut timetable q rides rules fares = rides_whole timetable q (stops_small timetable.trains rules fares) Start (ready q) rides
+
+-- ---- the trains in force
+fare_fits : (o : Option Departure) → IfSome o DepartureTyped → elim o [ Some d ↦ d.fare | None ↦ 0 ] ≤ 65535
+fare_fits (Some d) typed = typed.fare
+fare_fits None typed = omega arith
+
+have_fares : (trains : List Train) → TrainsTyped trains → HaveFares trains
+have_fares =
+    All-weaker TrainTyped (λ (t : Train). AllByRecursion (λ (s : StopRow). fare_on s ≤ 65535) t.stops)
+    (λ t typed. All-weaker StopTyped (λ (s : StopRow). fare_on s ≤ 65535) (λ s it. fare_fits s.depart it.depart) t.stops typed.stops)
+
+pub nothing_is_cut_in_force : EveryHistoryIsLawful → EveryHistoryIsTyped → NothingIsCutInForce
+nothing_is_cut_in_force lawful typed tr sr calls st ts ss history runs q rides =
+    let trains = (in_force tr sr calls).trains in
+    nothing_is_cut (timetable_of trains runs) q rides (lawful tr sr calls st ts ss history).rules (have_fares trains (typed tr sr calls st ts ss history))
