@@ -1,14 +1,17 @@
 -- The listed exceptions: whether a pair has room, and what a change or one more makes of the list.
-use Rattle.std.proofs.Common.{◌≡◌, ℕ, zero, suc, ◌<◌, Bool, true, false, cond, ◌||◌, ltb, List, [], ◌∷◌, ◌++◌, length, get_or, set, Some, None, sym, refl, ap, ◌∙◌, arith}
-use Rattle.std.specs.List.{list_any, position}
+use Rattle.std.proofs.Common.{◌≡◌, ℕ, zero, suc, ◌<◌, Bool, true, false, cond, ◌||◌, ltb, List, [], ◌∷◌, ◌++◌, length, length-take, get_or, get_or-take, set, Some, None, sym, refl, ap, ◌∙◌, arith}
+use Rattle.std.specs.List.{list_any, position, slice_get}
+use lib.Seq.{take-set-lt}
 use Rattle.std.proofs.lemmas.Bool.{cond-true, cond-false, or_left}
 use Rattle.std.proofs.lemmas.Grind.{common_steps}
 use Rattle.std.proofs.lemmas.List.Folds.{list_any_at}
 use Rattle.std.proofs.lemmas.List.Quantifiers.{position-Some}
-use Rattle.arrayvec.specs.ArrayVec.{ArrayVec}
+use Rattle.std.proofs.lemmas.Option.{get_or_from_slice_get}
+use Rattle.calendar.specs.Lending.{with_record}
 use Rattle.calendar.specs.Limits.{most_exceptions}
 use Rattle.calendar.specs.Words.{is_for, marked, entries, place, has_room, with_word, noted}
 use Rattle.calendar.specs.declared.exceptions.Exception.{Exception}
+use Rattle.calendar.specs.declared.exceptions.Listed.{Listed}
 
 none_passes : {X : Type 0} (p : X → Bool) (xs : List X) → position p xs ≡ None → list_any p xs ≡ false
 none_passes p [] h = refl
@@ -16,13 +19,13 @@ none_passes p (x ∷ xs) h = grind (arith, common_steps, none_passes p xs)
 
 module _ (code day : ℕ) where
   -- the pair has room where it is listed, and else where the list does
-  pub room_listed : (l : ArrayVec Exception) (i : ℕ) (d : Exception) → place (entries l) code day ≡ Some i → has_room l code day ≡ true
+  pub room_listed : (l : Listed) (i : ℕ) (d : Exception) → place (entries l) code day ≡ Some i → has_room l code day ≡ true
   room_listed l i d h =
       let at = position-Some (λ e. is_for e code day) (entries l) i d h in
       or_left _ _ (list_any_at (λ e. is_for e code day) (entries l) i d at.0 at.1)
 
-  pub room_unlisted : (l : ArrayVec Exception) → place (entries l) code day ≡ None → has_room l code day ≡ ltb (length (entries l)) most_exceptions
-  room_unlisted l h = ap (λ b. b || ltb (length (entries l)) most_exceptions) (none_passes (λ e. is_for e code day) (entries l) h)
+  pub room_unlisted : (l : Listed) → place (entries l) code day ≡ None → has_room l code day ≡ ltb l.count most_exceptions
+  room_unlisted l h = ap (λ b. b || ltb l.count most_exceptions) (none_passes (λ e. is_for e code day) (entries l) h)
 
   module _ (word : Bool) where
     -- the first that is for the pair is marked, and where none is, the pair comes last
@@ -37,12 +40,15 @@ module _ (code day : ℕ) where
     with_last (e ∷ es) h = grind (arith, common_steps, with_last es)
 
     -- the list that noting leaves, where the pair is listed and where it is new
-    pub noted_listed : (l : ArrayVec Exception) (i : ℕ) (d : Exception) → place (entries l) code day ≡ Some i → set (entries l) i (marked (get_or (entries l) i d) word) ≡ noted l code day word
-    noted_listed l i d h =
-        let at = position-Some (λ e. is_for e code day) (entries l) i d h in
-        sym (with_at (entries l) i d at.0 at.1 at.2) ∙ sym (cond-true _ _ _ (room_listed l i d h))
+    pub noted_listed : (l : Listed) (i : ℕ) (e : Exception) → place (entries l) code day ≡ Some i → slice_get l.records i ≡ Some e → entries (with_record l i (marked e word)) ≡ noted l code day word
+    noted_listed l i e h there =
+        let at = position-Some (λ e. is_for e code day) (entries l) i e h in
+        let near : i < l.count = omega (arith, length-take l.count l.records, at.0) in
+        let same : get_or (entries l) i e ≡ e = get_or-take l.count l.records i e near ∙ get_or_from_slice_get l.records i e e there in
+        take-set-lt l.count l.records i (marked e word) near ∙ ap (λ x. set (entries l) i (marked x word)) (sym same)
+        ∙ sym (with_at (entries l) i e at.0 at.1 at.2) ∙ sym (cond-true _ _ _ (room_listed l i e h))
 
-    pub noted_unlisted : (l : ArrayVec Exception) → place (entries l) code day ≡ None → cond (ltb (length (entries l)) most_exceptions) (entries l ++ (record { code = code; day = day; runs = word } ∷ [])) (entries l) ≡ noted l code day word
+    pub noted_unlisted : (l : Listed) → place (entries l) code day ≡ None → cond (ltb l.count most_exceptions) (entries l ++ (record { code = code; day = day; runs = word } ∷ [])) (entries l) ≡ noted l code day word
     noted_unlisted l h =
         let last = with_last (entries l) (none_passes (λ e. is_for e code day) (entries l) h) in
-        ap (λ es. cond (ltb (length (entries l)) most_exceptions) es (entries l)) (sym last) ∙ ap (λ b. cond b (with_word (entries l) code day word) (entries l)) (sym (room_unlisted l h))
+        ap (λ es. cond (ltb l.count most_exceptions) es (entries l)) (sym last) ∙ ap (λ b. cond b (with_word (entries l) code day word) (entries l)) (sym (room_unlisted l h))

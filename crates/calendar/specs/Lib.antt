@@ -1,5 +1,6 @@
 pub mod Dates
 pub mod Layers
+pub mod Lending
 pub mod Limits
 pub mod Pairs
 pub mod Refusals

@@ -1,10 +1,10 @@
 -- The listed exceptions: the word for a pair, and the list after a word is noted.
-use Rattle.std.specs.Prelude.{ℕ, Bool, cond, ◌&&◌, ◌||◌, List, [], ◌∷◌, length, Ok, Err, Option, Result, ◌==◌, nat_lt}
+use Rattle.std.specs.Prelude.{ℕ, Bool, cond, ◌&&◌, ◌||◌, List, [], ◌∷◌, take, Ok, Err, Option, Result, ◌==◌, nat_lt}
 use Rattle.std.specs.List.{find, list_any, position}
 use Rattle.std.specs.Option.{option_map}
-use Rattle.arrayvec.specs.ArrayVec.{ArrayVec}
 use Rattle.calendar.specs.Limits.{most_exceptions}
 use Rattle.calendar.specs.declared.exceptions.Exception.{Exception}
+use Rattle.calendar.specs.declared.exceptions.Listed.{Listed}
 use Rattle.calendar.specs.declared.refusal.Refusal.{Refusal}
 use Rattle.calendar.specs.declared.refusal.Refusal.TheVariants.{Full}
 
@@ -16,9 +16,9 @@ is_for e code day = e.code == code && e.day == day
 abbrev pub marked : Exception → Bool → Exception
 marked e word = record { code = e.code; day = e.day; runs = word }
 
--- the exceptions that are listed
-abbrev pub entries : ArrayVec Exception → List Exception
-entries l = l.items
+-- the exceptions that are listed, in the first records
+abbrev pub entries : Listed → List Exception
+entries l = take l.count l.records
 
 -- the index of the pair's exception
 abbrev pub place : List Exception → ℕ → ℕ → Option ℕ
@@ -34,16 +34,16 @@ with_word [] code day word = record { code = code; day = day; runs = word } ∷ 
 with_word (e ∷ es) code day word = cond (is_for e code day) (marked e word ∷ es) (e ∷ with_word es code day word)
 
 -- a word can be noted where the pair is listed already, or fewer than 64 are
-abbrev pub has_room : ArrayVec Exception → ℕ → ℕ → Bool
-has_room l code day = list_any (λ e. is_for e code day) (entries l) || nat_lt (length (entries l)) most_exceptions
+abbrev pub has_room : Listed → ℕ → ℕ → Bool
+has_room l code day = list_any (λ e. is_for e code day) (entries l) || nat_lt l.count most_exceptions
 
 abbrev pub room_answer : Bool → Result (Unit {0}) Refusal
 room_answer room = cond room (Ok tt) (Err Full)
 
 -- what noting answers ..
-abbrev pub note_answer : ArrayVec Exception → ℕ → ℕ → Result (Unit {0}) Refusal
+abbrev pub note_answer : Listed → ℕ → ℕ → Result (Unit {0}) Refusal
 note_answer l code day = room_answer (has_room l code day)
 
 -- .. and the list that it leaves
-abbrev pub noted : ArrayVec Exception → ℕ → ℕ → Bool → List Exception
+abbrev pub noted : Listed → ℕ → ℕ → Bool → List Exception
 noted l code day word = cond (has_room l code day) (with_word (entries l) code day word) (entries l)

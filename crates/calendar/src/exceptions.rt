@@ -1,10 +1,9 @@
 // Exceptions to any calendar: up to 64 pairs with a word of their own, and the calendar below for every other pair.
-ghost use Rattle.std.specs.Prelude.{◌≤◌, length};
+ghost use Rattle.std.specs.Prelude.{◌≤◌};
 ghost use Rattle.calendar.specs.Limits.{most_exceptions};
 
-use arrayvec::ArrayVec;
-
 pub mod layer;
+mod list;
 
 // How many exceptions there is room for.
 const ROOM: usize = 64;
@@ -17,11 +16,18 @@ struct Exception {
     runs: bool,
 }
 
+// The first `count` records are listed, and the others mean nothing.
+#[derive(Drop)]
+struct Listed {
+    records: [Exception; ROOM],
+    count: usize,
+}
+
 #[derive(Drop)]
 pub struct Exceptions<C> {
-    listed: ArrayVec<Exception, ROOM>,
+    listed: Listed,
     below: C,
 
-    // What the capacity says, as a fact that a clause can read.
-    ghost few: { length listed.items ≤ most_exceptions },
+    // The list knows no bound of its count, so that its records can be lent out with nothing to show when they come back.
+    ghost few: { listed.count ≤ most_exceptions },
 }

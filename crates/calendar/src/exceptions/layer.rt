@@ -1,20 +1,11 @@
 // The layer of exceptions over a calendar.
 ghost use Rattle.std.specs.Prelude.{◌≡◌, ℕ, false, []};
 ghost use Rattle.calendar.specs.Layers.{layered, noting};
-ghost use Rattle.calendar.specs.Words.{entries, has_room, is_for, note_answer, noted, place, word_of};
+ghost use Rattle.calendar.specs.Words.{entries, has_room, note_answer, noted};
 
 use crate::Calendar;
-use crate::exceptions::{Exception, Exceptions};
+use crate::exceptions::{Exception, Exceptions, Listed, ROOM};
 use crate::refusal::Refusal;
-use arrayvec::ArrayVec;
-
-impl Exception {
-    fn is_for(&self, code: u8, day: u16) -> bool
-        ensures { result ≡ is_for self.now code day }
-    {
-        self.code == code && self.day == day
-    }
-}
 
 impl<C: Calendar> Exceptions<C> {
     // The calendar below, as yet with no exception.
@@ -24,28 +15,12 @@ impl<C: Calendar> Exceptions<C> {
         ensures pairs { (c d : ℕ) → layered C.Calendar.runs result c d ≡ C.Calendar.runs below c d }
     {
         Exceptions {
-            listed: ArrayVec::new(),
+            listed: Listed {
+                records: [Exception::default(); ROOM],
+                count: 0,
+            },
             below,
         }
-    }
-
-    // Where the pair is listed.
-    fn place(&self, code: u8, day: u16) -> Option<usize>
-        ensures { result ≡ place (entries self.now.listed) code day }
-    {
-        self.listed
-            .iter()
-            .position(|listed| listed.is_for(code, day))
-    }
-
-    // The word that is listed for the pair.
-    fn word(&self, code: u8, day: u16) -> Option<bool>
-        ensures { result ≡ word_of (entries self.now.listed) code day }
-    {
-        self.listed
-            .iter()
-            .find(|listed| listed.is_for(code, day))
-            .map(|listed| listed.runs)
     }
 
     // Gives the pair a word of its own, in place of the one that it may have; refused under 23, and nothing changed,
@@ -57,19 +32,16 @@ impl<C: Calendar> Exceptions<C> {
         ensures below { self.new.below ≡ self.old.below }
         ensures refused { has_room self.old.listed code day ≡ false → self.new ≡ self.old }
     {
-        match self.place(code, day) {
+        match self.listed.place(code, day) {
             Some(i) => {
-                self.listed[i].runs = word;
+                self.listed.record(i).runs = word;
                 Ok(())
             }
-            None => self
-                .listed
-                .try_push(Exception {
-                    code,
-                    day,
-                    runs: word,
-                })
-                .map_err(|_| Refusal::Full),
+            None => self.listed.append(Exception {
+                code,
+                day,
+                runs: word,
+            }),
         }
     }
 }
@@ -78,7 +50,8 @@ impl<C: Calendar> Calendar for Exceptions<C> {
     ghost runs = { layered C.Calendar.runs };
 
     fn runs_on(&self, code: u8, day: u16) -> bool {
-        self.word(code, day)
+        self.listed
+            .word(code, day)
             .unwrap_or_else(|| self.below.runs_on(code, day))
     }
 }
