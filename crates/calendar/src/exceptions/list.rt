@@ -19,21 +19,21 @@ impl Exception {
 impl Listed {
     // Where the pair is listed.
     pub(crate) fn place(&self, code: u8, day: u16) -> Option<usize>
-        requires { self.now.count ≤ most_exceptions }
         ensures { result ≡ place (entries self.now) code day }
     {
-        self.records[..self.count]
+        self.records
             .iter()
+            .take(self.count)
             .position(|listed| listed.is_for(code, day))
     }
 
     // The word that is listed for the pair.
     pub(crate) fn word(&self, code: u8, day: u16) -> Option<bool>
-        requires { self.now.count ≤ most_exceptions }
         ensures { result ≡ word_of (entries self.now) code day }
     {
-        self.records[..self.count]
+        self.records
             .iter()
+            .take(self.count)
             .find(|listed| listed.is_for(code, day))
             .map(|listed| listed.runs)
     }

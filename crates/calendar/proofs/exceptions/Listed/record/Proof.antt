@@ -1,6 +1,6 @@
--- `record` lends one record of the list, and the list follows it: a walk of its MIR by hand, as an array's element has no proof made for it.
--- The list's place is taken apart into its array and its count, the array into its records, and record i is lent; when it comes back,
--- with whatever was written, they make a list again. As the list has no invariant, nothing has to be shown of what was written.
+-- `record` lends one record, and the list follows it. The check makes no proof for an array's element that is lent, so this is a walk of the MIR by hand.
+-- The list in memory is taken apart into its array and its count, the array into its records, and record i is lent. When it comes back, with whatever
+-- was written there, they make a list again: it has no invariant, so that nothing has to be shown of what was written.
 use Rattle.std.proofs.Common.{◌≡◌, ℕ, ◌+◌, ◌*◌, ◌<◌, ◌^◌, List, [], ◌∷◌, false, length, get_or, set, sym, refl, ◌∙◌, length-set, w64, arith}
 use Rattle.std.proofs.lemmas.Option.{slice_get-get_or}
 use Rattle.std.proofs.raw_atomic.Walks.{proved}
