@@ -10,4 +10,6 @@ mod refusing;
 #[cfg(test)]
 mod rows;
 #[cfg(test)]
+mod showing;
+#[cfg(test)]
 mod withdrawing;

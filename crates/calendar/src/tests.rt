@@ -160,3 +160,31 @@ fn the_65th_pair_is_refused_under_23_and_the_64th_is_not(rt: HostRuntime) {
     assert!(rt; calendar.note(0, 63, false) == Ok(()));
     assert!(rt; !calendar.runs_on(0, 63));
 }
+
+// A date, a weekday or a refusal that gave up would keep its promise, which speaks of what was written.
+#[test]
+fn dates_weekdays_and_refusals_are_shown(rt: HostRuntime) -> Result<(), Fail> {
+    let alloc = rt.alloc();
+    let date = on(2000, 1, 2).to_string(alloc)?;
+    assert_eq!(rt; date.as_str(), "2000-01-02");
+    let weekdays = [
+        (2, "Monday"),
+        (3, "Tuesday"),
+        (4, "Wednesday"),
+        (5, "Thursday"),
+        (6, "Friday"),
+        (7, "Saturday"),
+        (8, "Sunday"),
+    ];
+    for (day, name) in weekdays.iter() {
+        assert_eq!(rt; Weekday::of(*day).to_string(alloc)?.as_str(), *name);
+    }
+    let full = Refusal::Full.to_string(alloc)?;
+    assert_eq!(rt;
+        full.as_str(),
+        "64 exceptions are listed, and none of them is for this pair"
+    );
+    let backwards = Refusal::Backwards.to_string(alloc)?;
+    assert_eq!(rt; backwards.as_str(), "a row's first day is after its last");
+    Ok(())
+}

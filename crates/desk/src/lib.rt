@@ -14,3 +14,5 @@ pub mod leg;
 pub mod question;
 pub mod report;
 pub mod rows;
+#[cfg(test)]
+mod tests;

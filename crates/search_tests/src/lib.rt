@@ -10,4 +10,6 @@ mod filled_book;
 #[cfg(test)]
 mod refusing;
 #[cfg(test)]
+mod showing;
+#[cfg(test)]
 mod travelling;

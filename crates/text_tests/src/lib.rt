@@ -10,4 +10,6 @@ mod reading;
 #[cfg(test)]
 mod shelf;
 #[cfg(test)]
+mod showing;
+#[cfg(test)]
 mod writing;
