@@ -40,12 +40,21 @@ fn questions_legs_times_and_faults_are_shown(rt: HostRuntime) -> Result<(), Fail
     let asked = "1 -> 4 on 2000-01-04 from 07:50, changes 2, features 0, minutes:5";
     assert_eq!(rt; question.as_str(), asked);
     let leg = LEG.to_string(alloc)?;
-    assert_eq!(rt; leg.as_str(), "  train 11 of 2000-01-04: 1 at 08:00 -> 3 at 09:10");
+    assert_eq!(rt;
+        leg.as_str(),
+        "  train 11 of 2000-01-04: 1 at 08:00 -> 3 at 09:10"
+    );
     assert_eq!(rt; Time(1830).to_string(alloc)?.as_str(), "30:30");
     let found = FOUND.to_string(alloc)?;
-    assert_eq!(rt; found.as_str(), "3:18: refused 19: the line or field is malformed");
+    assert_eq!(rt;
+        found.as_str(),
+        "3:18: refused 19: the line or field is malformed"
+    );
     let backwards = BACKWARDS.to_string(alloc)?;
-    assert_eq!(rt; backwards.as_str(), "2: refused 24: a row's first day is after its last");
+    assert_eq!(rt;
+        backwards.as_str(),
+        "2: refused 24: a row's first day is after its last"
+    );
     assert_eq!(rt; UNREAD.to_string(alloc)?.as_str(), "7: expected yes or no");
     Ok(())
 }
@@ -59,11 +68,17 @@ const TARIFFS: [(Asked, &str); 3] = [
 const EXPECTED: [(Expected, &str); 10] = [
     (Expected::Origin, "FROM, a station's number"),
     (Expected::Destination, "TO, a station's number"),
-    (Expected::Day, "a day, as a number up to 65535 or a date from 2000-01-01 to 2179-06-06"),
+    (
+        Expected::Day,
+        "a day, as a number up to 65535 or a date from 2000-01-01 to 2179-06-06",
+    ),
     (Expected::Time, "a time of day, as 07:50"),
     (Expected::Changes, "a change limit, a number up to 255"),
     (Expected::Features, "features, a number up to 65535"),
-    (Expected::Tariff, "a tariff: minutes:PENALTY, fares or waits"),
+    (
+        Expected::Tariff,
+        "a tariff: minutes:PENALTY, fares or waits",
+    ),
     (Expected::Code, "a calendar code, a number up to 255"),
     (Expected::LastDay, "a last day, and nothing behind it"),
     (Expected::Word, "yes or no"),

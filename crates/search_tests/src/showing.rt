@@ -4,8 +4,16 @@ use search::refusal::Refusal;
 use std::test::*;
 
 const SHOWN: [(Refusal, u8, &str); 6] = [
-    (Refusal::Book(refusal::Refusal::Damaged), 1, "the tables do not hold what the book says"),
-    (Refusal::BadQuery, 13, "a station, the day, the minute or the change limit is out of bounds"),
+    (
+        Refusal::Book(refusal::Refusal::Damaged),
+        1,
+        "the tables do not hold what the book says",
+    ),
+    (
+        Refusal::BadQuery,
+        13,
+        "a station, the day, the minute or the change limit is out of bounds",
+    ),
     (Refusal::SameStation, 14, "origin and destination are equal"),
     (Refusal::ShortRides, 15, "the ride list is too short"),
     (Refusal::ShortWork, 16, "the work table is too short"),

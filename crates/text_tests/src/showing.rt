@@ -8,13 +8,29 @@ use text::refusal::Refusal;
 const CAUSES: [(Cause, u8, &str); 4] = [
     (Cause::Names, 18, "the first line is not the line of names"),
     (Cause::Malformed, 19, "the line or field is malformed"),
-    (Cause::Differs, 20, "the train, code or features differ from those of the open train"),
-    (Cause::Book(refusal::Refusal::ZeroNumber), 2, "a train's number is not 0"),
+    (
+        Cause::Differs,
+        20,
+        "the train, code or features differ from those of the open train",
+    ),
+    (
+        Cause::Book(refusal::Refusal::ZeroNumber),
+        2,
+        "a train's number is not 0",
+    ),
 ];
 
 const REFUSALS: [(Refusal, u8, &str); 2] = [
-    (Refusal::Book(refusal::Refusal::Damaged), 1, "the tables do not hold what the book says"),
-    (Refusal::ShortBuffer, 21, "the buffer is too short for the text"),
+    (
+        Refusal::Book(refusal::Refusal::Damaged),
+        1,
+        "the tables do not hold what the book says",
+    ),
+    (
+        Refusal::ShortBuffer,
+        21,
+        "the buffer is too short for the text",
+    ),
 ];
 
 #[test]
