@@ -4,7 +4,7 @@ ghost use Rattle.book.specs.Answers.{ok_unless};
 ghost use Rattle.book.specs.Stops.{ended, same_station, wrong_times, late, leaves, left_at, before_it, not_after, bad_time, stop_fault, in_order, last_of, sound};
 
 use crate::limits::{LAST_MINUTE, LAST_STATION, MOST_STOPS_OF_TRAIN};
-use crate::reasons::first_of;
+use crate::reasons::refused_if;
 use crate::refusal::Refusal;
 use crate::rows::{Departure, StopRow};
 
@@ -69,13 +69,12 @@ fn has_bad_time(before: Option<StopRow>, stop: StopRow) -> bool
 pub fn may_follow(before: Option<StopRow>, stop: StopRow) -> Result<(), Refusal>
     ensures { result ≡ ok_unless (stop_fault before stop) }
 {
-    first_of(&[
-        (has_ended(before), Refusal::PastLast),
-        (stop.station > LAST_STATION, Refusal::NoStation),
-        (is_at_station_of(before, stop), Refusal::SameStation),
-        (has_wrong_times(before, stop), Refusal::WrongTimes),
-        (has_bad_time(before, stop), Refusal::BadTime),
-    ])
+    // each row that a call looks over comes through here, and a list would make all five tests of it
+    refused_if(has_ended(before), Refusal::PastLast)?;
+    refused_if(stop.station > LAST_STATION, Refusal::NoStation)?;
+    refused_if(is_at_station_of(before, stop), Refusal::SameStation)?;
+    refused_if(has_wrong_times(before, stop), Refusal::WrongTimes)?;
+    refused_if(has_bad_time(before, stop), Refusal::BadTime)
 }
 
 // Whether each stop may follow the one before it.
