@@ -34,6 +34,10 @@ impl<P: Tariff> Inquiry<'_, P> {
         ensures rides { rides.new ≡ rides_left result rides.old rides.new }
         ensures work { work.new ≡ replicate (length work.old) blank }
     {
+        // nobody travels without trains; making the tables below takes far longer than this answer
+        if self.trains.is_empty() {
+            return Err(Refusal::NoConnection);
+        }
         let usable = self.usable(calendar);
         let mut reached = Reached {
             end: None,

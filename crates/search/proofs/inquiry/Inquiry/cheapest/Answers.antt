@@ -1,8 +1,9 @@
 use Rattle.connection.specs.Connections.{most_rides}
-use Rattle.std.proofs.Common.{◌+◌, replicate, None, refl, ap, ◌∙◌, arith}
+use Rattle.std.proofs.Common.{◌+◌, length, replicate, None, refl, ap, ◌∙◌, arith}
 use Rattle.search.specs.Records.{blank}
 use Rattle.search.specs.Working.{size_of}
 use Rattle.search.proofs.Basis.{Basis}
+use Rattle.search.proofs.BlankRecords.{blanked}
 use Rattle.search.proofs.CheapestEnd.{searched, nothing_found, whole, end_layer, whole_told, finds, rest_stands}
 use Rattle.search.proofs.Layering.{layers_below}
 use Rattle.search.proofs.inquiry.Inquiry.cheapest.Goals as goal
@@ -61,3 +62,6 @@ returns g c =
           }
       | in-None w ↦ rw (w.found-is, w.rides-is) record { found = (refl, nothing_found known w.in-None.is); rides = refl; work = blanked }
     ]
+
+pub returns-then-is_empty-clause-work : goal.returns-then-is_empty-clause-work
+returns-then-is_empty-clause-work g c = blanked (length c.args.work.now) c.args.work.now (omega arith) (λ z h. c.requires.blank z (omega arith))
