@@ -30,7 +30,7 @@ GROUPS = [
     ("The text", "crates/text/src/reading.rt:read", "crates/text/src/writing.rt:write"),
     ("Refusals by their numbers and words", *(f"crates/{crate}/src/refusal.rt:number,output" for crate in ("tariff", "calendar", "book", "search", "text")),
      "crates/text/src/fault.rt:number,layer,output"),
-    ("The desk", "crates/desk/src/question.rt:asked_by", "crates/desk/src/rows.rt:date_row,exception_row", "crates/desk/src/leg.rt:leg_of",
+    ("The desk", "crates/desk/src/question.rt:asked_by", "crates/desk/src/input.rt:next_line,asked_if_any", "crates/desk/src/rows.rt:date_row,exception_row", "crates/desk/src/leg.rt:leg_of",
      "crates/desk/src/report.rt:output", "crates/desk/src/command.rt:command_of,output"),
 ]
 CRATES = [line.split(":")[0] for line in open("crates.txt", encoding="utf-8") if ":" in line]

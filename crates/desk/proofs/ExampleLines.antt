@@ -29,6 +29,11 @@ too_many_changes : asks (codes "1 4 3 07:50 256 0 fares") ≡ Err Changes
 unfolding digits number time day_of date_written
 too_many_changes = refl
 
+-- the line ends too early
+no_time : asks (codes "1 4 3") ≡ Err Time
+unfolding digits number time day_of date_written
+no_time = refl
+
 -- the tariff is the last word
 more_behind : asks (codes "1 4 3 07:50 2 0 fares 5") ≡ Err Tariff
 unfolding digits number time day_of date_written

@@ -1,3 +1,4 @@
 mod ExampleLines
 mod FirstWords
+mod LinesTaken
 mod OptionsTold

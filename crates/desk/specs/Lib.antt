@@ -1,5 +1,6 @@
 pub mod Commands
 pub mod Days
+pub mod Input
 pub mod Legs
 pub mod Questions
 pub mod Reports

@@ -10,6 +10,7 @@ pub mod asked;
 pub mod command;
 pub mod days;
 pub mod expected;
+pub mod input;
 pub mod leg;
 pub mod question;
 pub mod report;

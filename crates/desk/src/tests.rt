@@ -2,6 +2,7 @@
 use crate::asked::Asked;
 use crate::command::Misuse;
 use crate::expected::Expected;
+use crate::input::{asked_if_any, next_line};
 use crate::question::asked_by;
 use crate::report::{Found, Leg, RowFault, Time, Wrong};
 use calendar::refusal::Refusal;
@@ -102,5 +103,27 @@ fn tariffs_what_is_expected_and_misuses_are_shown(rt: HostRuntime) -> Result<(),
     for (misuse, words) in MISUSES.iter() {
         assert_eq!(rt; misuse.to_string(alloc)?.as_str(), *words);
     }
+    Ok(())
+}
+
+// An empty line is one, a carriage return is a byte of its line, and the last line may lack its feed.
+#[test]
+fn lines_are_read_one_after_another_up_to_the_end(rt: HostRuntime) -> Result<(), Fail> {
+    let mut input: &[u8] = b"1 4\n\n7\r\n8";
+    let lines: [&[u8]; 4] = [b"1 4", b"", b"7\r", b"8"];
+    let mut line = Vec::new(rt.alloc());
+    for wanted in lines.iter() {
+        assert!(rt; next_line(&mut input, &mut line)?);
+        assert!(rt; line.as_slice() == *wanted);
+    }
+    assert!(rt; !next_line(&mut input, &mut line)?);
+    assert!(rt; line.is_empty());
+    Ok(())
+}
+
+#[test]
+fn an_empty_line_asks_nothing(rt: HostRuntime) -> Result<(), Fail> {
+    assert!(rt; asked_if_any(b"").is_none());
+    assert!(rt; asked_if_any(b"7") == Some(Err(Expected::Destination)));
     Ok(())
 }

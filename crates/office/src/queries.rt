@@ -4,15 +4,16 @@ use calendar::Calendar;
 use connection::query::Query;
 use connection::ride::{Ride, Shift};
 use desk::asked::Asked;
+use desk::input::{asked_if_any, next_line};
 use desk::leg::leg_of;
-use desk::question::{Question, asked_by};
+use desk::question::Question;
 use search::limits::MOST_RIDES;
 use search::record::WorkRecord;
 use search::search_in;
 use search::timetable::Timetable;
 use search::work_table::WorkTable;
 use std::fmt;
-use std::io::{self, BufRead, BufReader, BufWriter, Write};
+use std::io::{self, BufReader, BufWriter, Write};
 use tariff::Tariff;
 use tariff::fares::{FareTotal, Fares};
 use tariff::minutes::{MinuteTotal, Minutes};
@@ -111,15 +112,17 @@ pub fn answer_all<C: Calendar>(
     let timetable = Timetable::new(&file.book, &file.trains, &file.stops, calendar);
     let mut work = WorkTables::new(rt);
     let mut out = BufWriter::new(rt.alloc(), io::writer(rt))?;
-    let lines = BufReader::new(rt.alloc(), rt.stdin())?.split(rt.alloc(), b'\n');
-    for (index, line) in lines.enumerate() {
-        let line = line?;
-        if line.is_empty() {
-            continue;
+    let mut input = BufReader::new(rt.alloc(), rt.stdin())?;
+    let mut line = Vec::new(rt.alloc());
+    // an input of unknown length has to have an end; none has so many lines
+    for number in 1..u64::MAX {
+        if !next_line(&mut input, &mut line)? {
+            break;
         }
-        match asked_by(&line) {
-            Ok(question) => write_answer(rt, &mut out, &timetable, question, &mut work)?,
-            Err(expected) => writeln!(out, "  LINE {}: expected {expected}", index + 1)?,
+        match asked_if_any(&line) {
+            None => continue,
+            Some(Ok(question)) => write_answer(rt, &mut out, &timetable, question, &mut work)?,
+            Some(Err(expected)) => writeln!(out, "  LINE {number}: expected {expected}")?,
         }
         writeln!(out, "")?;
         // who asks line by line reads each answer ahead of the next question
